@@ -1,0 +1,4 @@
+pub mod Address
+pub mod Laws
+pub mod Number
+pub mod PrefixText

@@ -1,0 +1,4 @@
+pub mod BankLemmas
+pub mod PlainLemmas
+pub mod ReaderLemmas
+pub mod WorldLemmas

@@ -1,0 +1,4 @@
+pub mod DivisorLemmas
+pub mod PathLemmas
+pub mod PathOrder
+pub mod SlotLemmas

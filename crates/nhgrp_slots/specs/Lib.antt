@@ -1,0 +1,5 @@
+pub mod Laws
+pub mod Order
+pub mod PathList
+pub mod Slots
+pub mod Target

@@ -1,0 +1,95 @@
+use crate::OutOfMemory;
+use crate::paths::Paths;
+use counted_map::CountedMap;
+use std::alloc::Global;
+use std::marker::Model;
+
+/// How often each group is used, seen as the groups in their order, each with its count. A group
+/// is a list of two paths or more.
+#[derive(Drop)]
+pub struct GroupTable<const W: u32> {
+    counts: CountedMap<Paths<W>>,
+}
+
+impl<const W: u32> Model for GroupTable<W> {
+    ghost use Rattle.std.specs.Prelude.{List, All};
+    ghost use Rattle.std.specs.Map.{keys_of};
+    ghost use Rattle.prefix_width.specs.Path.{WeightedHop};
+    ghost use Rattle.counted_map.specs.Counts.{Counts};
+    ghost use Rattle.nhgrp_slots.specs.PathList.{IsGroup};
+
+    ghost Value = { Counts (List WeightedHop) };
+
+    ghost view = { λ t. t.counts };
+
+    ghost invariant = { λ t. All IsGroup (keys_of t.counts) };
+}
+
+impl<const W: u32> GroupTable<W> {
+    ghost use Rattle.std.specs.Prelude.{◌≡◌, ◌-◌, ◌<◌, ◌≤◌, ◌^◌, [], length, All, OnOk, OnErr, IfOk};
+    ghost use Rattle.std.specs.Map.{keys_of};
+    ghost use Rattle.counted_map.specs.Counts.{count_of, linked, unlinked, IsCounts};
+    ghost use Rattle.nhgrp_slots.specs.Order.{paths_cmp};
+    ghost use Rattle.nhgrp_slots.specs.PathList.{IsGroup};
+
+    /// No group is used.
+    pub fn new(alloc: Global) -> Self
+        ensures { result ≡ [] }
+    {
+        GroupTable {
+            counts: CountedMap::new(alloc),
+        }
+    }
+
+    /// Counts one more use of the group. It is copied at its first use alone, and no other use
+    /// takes memory. An error leaves the table as it was.
+    pub fn link(&mut self, alloc: Global, group: &Paths<W>) -> Result<(), OutOfMemory>
+        requires several { 2 ≤ length group.now }
+        requires count { count_of paths_cmp self.old group.now < 2 ^ 32 - 1 }
+        requires room { length self.old < 2 ^ 32 - 1 }
+        ensures ok { OnOk result (self.new ≡ linked paths_cmp self.old group.now) }
+        ensures err { OnErr result (self.new ≡ self.old) }
+    {
+        if self.counts.increase(group) {
+            return Ok(());
+        }
+        let key = group.copy(alloc)?;
+        self.counts.insert(key)?;
+        Ok(())
+    }
+
+    /// Counts one use of the group less, and drops it with the last. No memory is taken.
+    pub fn unlink(&mut self, group: &Paths<W>)
+        requires { 1 ≤ count_of paths_cmp self.old group.now }
+        ensures { self.new ≡ unlinked paths_cmp self.old group.now }
+    {
+        self.counts.decrease(group);
+    }
+
+    /// How often the group is used.
+    pub fn count(&self, group: &Paths<W>) -> u32
+        ensures { result ≡ count_of paths_cmp self.now group.now }
+    {
+        self.counts.count(group)
+    }
+
+    /// How many groups are in use, and what every such table knows of its entries.
+    pub fn live(&self) -> u32
+        ensures size { result ≡ length self.now }
+        ensures counts { IsCounts paths_cmp self.now }
+        ensures groups { All IsGroup (keys_of self.now) }
+    {
+        self.counts.live()
+    }
+
+    /// The groups in use, in their order.
+    pub fn list(&self, alloc: Global) -> Result<Vec<Paths<W>>, OutOfMemory>
+        ensures { IfOk result (λ v. v.items ≡ keys_of self.now) }
+    {
+        let mut groups = Vec::new(alloc);
+        for (group, _count) in self.counts.iter() {
+            groups.push(group.copy(alloc)?)?;
+        }
+        Ok(groups)
+    }
+}

@@ -1,0 +1,23 @@
+//! Weighted groups of paths: kept once each with a count of their uses, and compiled into slots,
+//! after FreeBSD's `sys/net/route/nhgrp.c` and `nhgrp_ctl.c`.
+#![tactic(auto)]
+
+mod divisor;
+mod groups;
+mod laws;
+mod path_facts;
+mod paths;
+mod slots;
+mod target;
+
+pub use groups::GroupTable;
+pub use laws::{
+    law_shares_are_all, law_slots_are_filled, law_slots_hold_picked, law_small_shares_are_exact,
+};
+pub use paths::Paths;
+pub use slots::{Slots, compile};
+pub use std::alloc::AllocError as OutOfMemory;
+pub use target::Target;
+
+#[cfg(test)]
+mod tests;

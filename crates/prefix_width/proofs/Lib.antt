@@ -1,0 +1,3 @@
+pub mod LongestLemmas
+pub mod OrderLemmas
+pub mod PrefixLemmas

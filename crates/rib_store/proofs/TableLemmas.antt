@@ -1,0 +1,58 @@
+-- What a row more does to the table, and what a command more does to the table of a plan.
+use Rattle.std.proofs.Common.{◌≡◌, ◌∙◌, ℕ, ◌+◌, ◌≤◌, Bool, true, false, cond, List, [], ◌∷◌, ◌++◌, Option, Some, None, length, refl, ap, arith}
+use Rattle.std.specs.Ordering.{is_eq, match_ordering}
+use Rattle.std.specs.declared.cmp.Ordering.TheVariants.{Less, Equal, Greater}
+use Rattle.std.specs.List.{slice_get}
+use Rattle.std.proofs.lemmas.List.{take-append-le}
+use Rattle.std.proofs.lemmas.List.Sums.{fold_more}
+use Rattle.std.proofs.lemmas.Option.{slice_get_within, get_or_from_slice_get}
+use Rattle.std.proofs.Math.Seq.{take-length}
+use Rattle.prefix_width.specs.Prefix.{Block}
+use Rattle.prefix_width.specs.Path.{WeightedHop}
+use Rattle.prefix_width.specs.Order.{block_cmp}
+use Rattle.rib_store.specs.declared.command.Command.{Command}
+use Rattle.rib_store.specs.Table.{Table, paths_at, put_row, apply, table_of, table_after}
+
+skip : (t : Bool) (paths : List WeightedHop) (rest : Option (List WeightedHop)) → cond t (Some paths) rest ≡ None → (t ≡ false) × (rest ≡ None)
+skip true paths rest e = cc
+skip false paths rest e = (refl, e)
+
+-- a prefix that is absent stays so where another's row is put in
+pub absent_row : (rows : Table) (k b : Block) (paths : List WeightedHop) → is_eq (block_cmp b k) ≡ false → paths_at rows b ≡ None → paths_at (put_row rows k paths) b ≡ None
+absent_row [] k b paths other none = rw other refl
+absent_row (row ∷ rows) k b paths other none =
+    let first = skip (is_eq (block_cmp b row.0)) row.1 (paths_at rows b) none in
+    let here : is_eq (block_cmp b row.0) ≡ false = first.0 in
+    let behind : paths_at rows b ≡ None = first.1 in
+    let later : paths_at (put_row rows k paths) b ≡ None = absent_row rows k b paths other behind in
+    elim (block_cmp k row.0) as (λ r. paths_at (match_ordering r ((k, paths) ∷ row ∷ rows) ((row.0, paths) ∷ rows) (row ∷ put_row rows k paths)) b ≡ None) [
+      | Less ↦ rw (other, here) behind
+      | Equal ↦ rw here behind
+      | Greater ↦ rw here later
+    ]
+
+-- a row that is put in makes one row more at most
+pub length-put_row : (rows : Table) (b : Block) (paths : List WeightedHop) → length (put_row rows b paths) ≤ length rows + 1
+length-put_row [] b paths = omega arith
+length-put_row (row ∷ rows) b paths =
+    let later = length-put_row rows b paths in
+    elim (block_cmp b row.0) as (λ r. length (match_ordering r ((b, paths) ∷ row ∷ rows) ((row.0, paths) ∷ rows) (row ∷ put_row rows b paths)) ≤ length (row ∷ rows) + 1) [
+      | Less ↦ omega arith
+      | Equal ↦ omega arith
+      | Greater ↦ omega arith
+    ]
+
+module _ {w : _} where
+  -- commands put behind a plan change nothing before them
+  pub table_after-append : (plan more : List (Command w)) (c : ℕ) → c ≤ length plan → table_after (plan ++ more) c ≡ table_after plan c
+  table_after-append plan more c h = ap table_of (take-append-le c plan more h)
+
+  -- the table after all commands
+  pub table_after-length : (plan : List (Command w)) → table_after plan (length plan) ≡ table_of plan
+  table_after-length plan = ap table_of (take-length plan)
+
+  -- the table after one command more
+  pub table_after_more : (plan : List (Command w)) (pos : ℕ) (c : Command w) → slice_get plan pos ≡ Some c → table_after plan (pos + 1) ≡ (apply (table_after plan pos) c).table
+  table_after_more plan pos c e =
+      fold_more (λ rows command. (apply rows command).table) [] plan pos c (slice_get_within plan pos c e)
+      ∙ ap (λ d. (apply (table_after plan pos) d).table) (get_or_from_slice_get plan pos c c e)

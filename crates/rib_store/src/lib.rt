@@ -1,0 +1,20 @@
+//! Commands, plans and the route table of one address family.
+//!
+//! The table is seen as the list of its rows in prefix order, and what a command does to it is
+//! said on that list. So far the one command is `add` of a new prefix.
+#![tactic(auto)]
+
+mod command;
+mod paths;
+mod plan;
+mod rib;
+mod scan;
+
+pub use command::{Command, Reply};
+pub use paths::Paths;
+pub use plan::{PLAN_MAX, Plan, PushError};
+pub use rib::{ADDS_MAX, Rib};
+pub use std::alloc::AllocError as OutOfMemory;
+
+#[cfg(test)]
+mod tests;

@@ -1,0 +1,54 @@
+-- The causes of each status: what it says of the bytes that were read and written.
+use Rattle.std.specs.Prelude.{◌≡◌, ◌⊎◌, ℕ, Bool, true, Some, ◌≤◌, List, length, Option, Result, Ok, Err}
+use Rattle.std.specs.Io.KnownBytes.{Appends}
+use Rattle.outside_io.specs.Faults.{Rose}
+use Rattle.outside_io.specs.Whole.{ReadsAll, ReadsPast, WritesFront}
+use Rattle.route_lang.specs.declared.fault.Reason.{Reason}
+use Rattle.route_lang.specs.declared.fault.Reason.TheVariants.{TooLarge, NotBuilt}
+use Rattle.route_lang.specs.declared.script.TheConstants.{INPUT_MAX}
+use Rattle.route_cli.specs.Result.{result_of}
+use Rattle.route_cli.specs.declared.job.Job.{Job}
+use Rattle.route_cli.specs.declared.status.Status.{Status}
+use Rattle.route_cli.specs.declared.status.Status.TheVariants as status
+
+-- the source was read to its end, and these bytes are within the limit
+pub record WasRead (left rest : Option (List ℕ)) (bytes : List ℕ) : Type 0 where
+  pub whole : ReadsAll left rest bytes
+  pub within : length bytes ≤ INPUT_MAX
+
+-- the source was read to its end, and the text is what the job makes of the bytes
+pub record HasResult (job : Job) (left rest : Option (List ℕ)) (text : List ℕ) : Type 0 where
+  pub bytes : List ℕ
+  pub read : WasRead left rest bytes
+  pub result : result_of job bytes ≡ Ok text
+
+-- Ok: the whole result was written
+pub record Answered (job : Job) (left rest written now : Option (List ℕ)) : Type 0 where
+  pub text : List ℕ
+  pub source : HasResult job left rest text
+  pub sink : Appends written now text
+
+-- a write fault: a front of the result was written
+pub record Interrupted (job : Job) (left rest written now : Option (List ℕ)) : Type 0 where
+  pub text : List ℕ
+  pub source : HasResult job left rest text
+  pub sink : WritesFront written now text
+
+-- a refused line: the source was read to its end, and the bytes have this fault
+pub record RefusedAt (job : Job) (left rest : Option (List ℕ)) (line : ℕ) (reason : Reason) : Type 0 where
+  pub bytes : List ℕ
+  pub read : WasRead left rest bytes
+  pub result : result_of job bytes ≡ Err (record { line = line; reason = reason })
+
+-- a refused script: line 0 where the bytes are too many, else the line and the reason of the bytes
+abbrev pub Refuses : Job → Option (List ℕ) → Option (List ℕ) → ℕ → Reason → Type 0
+Refuses job left rest line TooLarge = (line ≡ 0) × ReadsPast INPUT_MAX left rest
+Refuses job left rest line NotBuilt = RefusedAt job left rest line NotBuilt
+
+-- Completeness: bytes within the limit of which the job makes a text, and counts of faults that
+-- don't rise, give Ok or want of memory.
+abbrev pub IsComplete : Job → Option (List ℕ) → ℕ → ℕ → ℕ → ℕ → Status → Type 0
+IsComplete job left read_before read_now write_before write_now result =
+    (bytes text : List ℕ) → left ≡ Some bytes → length bytes ≤ INPUT_MAX → result_of job bytes ≡ Ok text
+    → ¬ (Rose read_before read_now) → ¬ (Rose write_before write_now)
+    → (result ≡ status.Ok) ⊎ (result ≡ status.OutOfMemory)

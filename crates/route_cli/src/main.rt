@@ -1,0 +1,52 @@
+//! `fibrun`: replays scripts of route(8) commands.
+//!
+//! The program is the one call [`run`](top::run) over standard input and standard output.
+#![tactic(auto)]
+
+mod gate;
+mod job;
+mod laws;
+mod output;
+mod serial;
+mod status;
+mod top;
+mod words;
+
+pub use gate::{Gate, OpenGate};
+pub use job::Job;
+pub use laws::law_packets;
+pub use status::{Status, fault_text};
+pub use std::alloc::AllocError as OutOfMemory;
+pub use top::{plain, run};
+
+use outside_io::{StdSink, StdSource};
+use std::process::ExitCode;
+use std::rt::Env;
+use std::{env, io};
+
+#[cfg(test)]
+mod tests;
+
+fn main(rt: HostRuntime) -> ExitCode {
+    let status = run_on_standard_streams(&rt);
+    if let Ok(text) = fault_text(rt.alloc(), &status) {
+        let _ = rt.eprint(text.as_str());
+    }
+    ExitCode::from(status.code())
+}
+
+/// The words behind the program's name and the standard streams, handed to the top call.
+fn run_on_standard_streams(rt: &(impl Env + Print + Input + AllocGlobal)) -> Status {
+    let args = match env::args(rt) {
+        Ok(args) => args,
+        Err(error) if error.kind() == io::ErrorKind::OutOfMemory => return Status::OutOfMemory,
+        Err(_) => return Status::Usage,
+    };
+    let words: Vec<String> = match args.skip(1).collect(rt.alloc()) {
+        Ok(words) => words,
+        Err(_) => return Status::OutOfMemory,
+    };
+    let mut source = StdSource::new(rt.reader());
+    let mut sink = StdSink::new(io::writer(rt));
+    run(rt, words.as_slice(), &mut source, &mut sink, &OpenGate)
+}

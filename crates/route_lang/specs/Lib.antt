@@ -1,0 +1,4 @@
+pub mod Asked
+pub mod Fault
+pub mod Script
+pub mod Text

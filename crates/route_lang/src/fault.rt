@@ -1,0 +1,86 @@
+ghost use Rattle.std.specs.Prelude.{◌≡◌};
+ghost use Rattle.route_lang.specs.Fault.{reason_text};
+
+use std::alloc::{AllocError, AllocFailed};
+use std::fmt;
+use thiserror::Error;
+
+/// Why a script is refused.
+#[derive(Clone, Copy, Debug, PartialEq, Eq)]
+pub enum Reason {
+    /// The script has more than [`INPUT_MAX`](crate::INPUT_MAX) bytes.
+    TooLarge = 1,
+    /// The line is of a form that is not built yet.
+    NotBuilt = 15,
+}
+
+impl Reason {
+    /// The reason in words.
+    pub fn text(&self) -> &'static str
+        ensures { result.now ≡ reason_text self.now }
+    {
+        match self {
+            Reason::TooLarge => "input too large",
+            Reason::NotBuilt => "not built",
+        }
+    }
+}
+
+impl fmt::Display for Reason {
+    fn fmt<W: fmt::Write>(&self, f: &mut fmt::Formatter<W>) -> fmt::Result {
+        write!(f, "{}", self.text())
+    }
+}
+
+/// The first line of a script that is refused, counted from 1, and why. Line 0 speaks of the
+/// script as a whole.
+#[derive(Clone, Copy, Debug, PartialEq, Eq, Error)]
+#[error("line {line}: {reason}")]
+pub struct LineFault {
+    pub line: u32,
+    pub reason: Reason,
+}
+
+/// Why bytes gave no script.
+#[derive(Clone, Copy, Debug, PartialEq, Eq, Error)]
+pub enum ScriptError {
+    /// The bytes are refused.
+    #[error("{0}")]
+    Fault(LineFault),
+    /// Memory is wanting.
+    #[error("out of memory")]
+    OutOfMemory,
+}
+
+impl From<LineFault> for ScriptError {
+    ghost use Rattle.std.specs.Prelude.{◌≡◌};
+    ghost use Rattle.route_lang.specs.declared.fault.ScriptError.TheVariants.{Fault};
+
+    ghost from_gives = { λ fault e. e ≡ Fault fault };
+
+    fn from(fault: LineFault) -> Self {
+        ScriptError::Fault(fault)
+    }
+}
+
+impl From<AllocError> for ScriptError {
+    ghost use Rattle.std.specs.Prelude.{◌≡◌};
+    ghost use Rattle.route_lang.specs.declared.fault.ScriptError.TheVariants.{OutOfMemory};
+
+    ghost from_gives = { λ _ e. e ≡ OutOfMemory };
+
+    fn from(_: AllocError) -> Self {
+        ScriptError::OutOfMemory
+    }
+}
+
+impl<T: Drop> From<AllocFailed<T>> for ScriptError {
+    ghost use Rattle.std.specs.Prelude.{◌≡◌};
+    ghost use Rattle.route_lang.specs.declared.fault.ScriptError.TheVariants.{OutOfMemory};
+
+    ghost from_gives = { λ _ e. e ≡ OutOfMemory };
+
+    fn from(_: AllocFailed<T>) -> Self {
+        ScriptError::OutOfMemory
+    }
+}
