@@ -1,2 +1,1 @@
-pub mod PathLists
 pub mod TableLemmas

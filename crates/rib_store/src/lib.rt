@@ -5,13 +5,11 @@
 #![tactic(auto)]
 
 mod command;
-mod paths;
 mod plan;
 mod rib;
 mod scan;
 
 pub use command::{Command, Reply};
-pub use paths::Paths;
 pub use plan::{PLAN_MAX, Plan, PushError};
 pub use rib::{ADDS_MAX, Rib};
 pub use std::alloc::AllocError as OutOfMemory;

@@ -3,7 +3,7 @@ ghost use Rattle.rib_store.specs.Table.{apply, IsNewRoute};
 
 use crate::OutOfMemory;
 use crate::command::{Command, Reply};
-use crate::paths::Paths;
+use nhgrp_slots::Paths;
 use prefix_width::Prefix;
 use std::alloc::Global;
 use std::collections::BTreeMap;

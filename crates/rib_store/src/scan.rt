@@ -2,8 +2,8 @@ ghost use Rattle.std.specs.Prelude.{◌≡◌, option_map};
 ghost use Rattle.prefix_width.specs.Longest.{longest, longer, only_if_in};
 ghost use Rattle.rib_store.specs.Answer.{answer, lone_nexthop};
 
-use crate::paths::Paths;
 use crate::rib::Rib;
+use nhgrp_slots::Paths;
 use prefix_width::{Addr, Nexthop, Prefix};
 
 /// A borrowed row of the table.

@@ -1,4 +1,4 @@
-use crate::{Command, Paths, Plan, Reply, Rib};
+use crate::{Command, Plan, Reply, Rib};
 use prefix_width::{Addr, Nexthop, Path, Prefix};
 use std::test::Fail;
 
@@ -22,15 +22,6 @@ fn a_plan_keeps_its_commands_in_order(rt: HostRuntime) -> Result<(), Fail> {
     assert_eq!(rt; plan.len(), 2);
     assert_eq!(rt; *plan.command(0), first);
     assert_eq!(rt; *plan.command(1), second);
-    Ok(())
-}
-
-#[test]
-fn a_lone_path_is_made(rt: HostRuntime) -> Result<(), Fail> {
-    let path = path(5).ok_or("no path")?;
-    let paths = Paths::one(rt.alloc(), path)?;
-    assert_eq!(rt; paths.len(), 1);
-    assert_eq!(rt; *paths.path(0), path);
     Ok(())
 }
 
