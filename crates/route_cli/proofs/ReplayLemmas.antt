@@ -75,8 +75,8 @@ after_change script line pos inet6 c rest before after h at_pos rib commands pac
       rib = rib ∙ ap (λ rows. (apply rows c).table) table ∙ sym (table_after_more script.inet pos c at_pos) ∙ ap (λ n. table_after script.inet (n + 1)) here ∙ ap (table_after script.inet) (sym commands);
       in_step = rw commands h.in_step.2;
       text = ap (λ bytes. bytes ++ below) out ∙ moved before.out.items (numbered line (reply_text (apply before.rib c).reply)) below
-      ∙ ap (λ bytes. before.out.items ++ (bytes ++ below)) (sym text)
-      ∙ ap (λ bytes. before.out.items ++ bytes) (sym (flat_map-cons (line_text script.inet) (Change line (Some pos) inet6) rest)) ∙ h.text;
+          ∙ ap (λ bytes. before.out.items ++ (bytes ++ below)) (sym text)
+          ∙ ap (λ bytes. before.out.items ++ bytes) (sym (flat_map-cons (line_text script.inet) (Change line (Some pos) inet6) rest)) ∙ h.text;
       packets = rw packets h.packets;
       room = each;
     }
@@ -118,11 +118,11 @@ after_get script line addr flow at rest before after h rib commands packets out 
       rib = rib ∙ h.rib ∙ ap (table_after script.inet) (sym commands);
       in_step = rw commands h.in_step.1;
       text = ap (λ bytes. bytes ++ below) out ∙ moved before.out.items (numbered line (get_text 32 addr (version_after before.commands) (answer 32 before.rib addr))) below
-      ∙ ap (λ bytes. before.out.items ++ (bytes ++ below)) text
-      ∙ ap (λ bytes. before.out.items ++ bytes) (sym (flat_map-cons (line_text script.inet) (Get4 line addr flow at) rest)) ∙ h.text;
+          ∙ ap (λ bytes. before.out.items ++ (bytes ++ below)) text
+          ∙ ap (λ bytes. before.out.items ++ bytes) (sym (flat_map-cons (line_text script.inet) (Get4 line addr flow at) rest)) ∙ h.text;
       packets = ap (λ counts. linked_all hop_cmp counts (given script.inet rest)) packets
-      ∙ linked_option before.packets (answer 32 before.rib addr) (given script.inet rest)
-      ∙ ap (λ o. linked_all hop_cmp before.packets (cons_option o (given script.inet rest))) given_here ∙ h.packets;
+          ∙ linked_option before.packets (answer 32 before.rib addr) (given script.inet rest)
+          ∙ ap (λ o. linked_all hop_cmp before.packets (cons_option o (given script.inet rest))) given_here ∙ h.packets;
       room = rw packets (room_behind before.packets (answer 32 before.rib addr) (length rest) (more_room h.room));
     }
   where

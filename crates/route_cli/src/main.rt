@@ -15,14 +15,13 @@ mod words;
 pub use gate::{Gate, OpenGate};
 pub use job::Job;
 pub use laws::law_packets;
+use outside_io::{StdSink, StdSource};
 pub use status::{Status, fault_text};
 pub use std::alloc::AllocError as OutOfMemory;
-pub use top::{plain, run};
-
-use outside_io::{StdSink, StdSource};
 use std::process::ExitCode;
 use std::rt::Env;
 use std::{env, io};
+pub use top::{plain, run};
 
 #[cfg(test)]
 mod tests;

@@ -98,12 +98,7 @@ impl Replay {
     }
 
     /// Answers a get at the version that the commands so far have made.
-    fn answer_get(
-        &mut self,
-        line: u32,
-        alloc: Global,
-        addr: &Addr<32>,
-    ) -> Result<(), OutOfMemory>
+    fn answer_get(&mut self, line: u32, alloc: Global, addr: &Addr<32>) -> Result<(), OutOfMemory>
         requires { HasRoom self.old.packets 1 }
         ensures rib { OnOk result (self.new.rib ≡ self.old.rib) }
         ensures commands { OnOk result (self.new.commands ≡ self.old.commands) }

@@ -134,7 +134,12 @@ fn a_failing_read_and_a_failing_write_are_told(rt: HostRuntime) -> Result<(), Fa
     let alloc = rt.alloc();
     for (reads, writes, status, written) in [
         ([2].as_slice(), [].as_slice(), Status::ReadFault, ""),
-        ([].as_slice(), [3].as_slice(), Status::WriteFault, "1 added\n2 added\n3 10"),
+        (
+            [].as_slice(),
+            [3].as_slice(),
+            Status::WriteFault,
+            "1 added\n2 added\n3 10",
+        ),
     ] {
         let mut source = source(alloc, FIRST_PATH, reads)?;
         let fails = Vec::from_slice(alloc, writes)?;
@@ -170,8 +175,16 @@ fn each_fault_has_its_line_and_number(rt: HostRuntime) -> Result<(), Fail> {
     let refused = |line: u32, reason: Reason| Status::ScriptRefused { line, reason };
     for (status, code, text) in [
         (Status::Ok, 0, ""),
-        (refused(3, Reason::NotBuilt), 1, "fibrun: line 3: not built\n"),
-        (refused(0, Reason::TooLarge), 1, "fibrun: line 0: input too large\n"),
+        (
+            refused(3, Reason::NotBuilt),
+            1,
+            "fibrun: line 3: not built\n",
+        ),
+        (
+            refused(0, Reason::TooLarge),
+            1,
+            "fibrun: line 0: input too large\n",
+        ),
         (Status::Usage, 2, usage),
         (Status::ReadFault, 3, "fibrun: read fault\n"),
         (Status::WriteFault, 4, "fibrun: write fault\n"),

@@ -53,12 +53,7 @@ pub fn run<R: AllocGlobal, S: Source, K: Sink, G: Gate + Sync>(
 
 /// Does a job that waits for nobody: reads the source to its end, and writes the result of its
 /// bytes to the sink. It always returns.
-pub fn plain<S: Source, K: Sink>(
-    alloc: Global,
-    job: Job,
-    source: &mut S,
-    sink: &mut K,
-) -> Status
+pub fn plain<S: Source, K: Sink>(alloc: Global, job: Job, source: &mut S, sink: &mut K) -> Status
     ensures no_usage { result ≢ Status.Usage }
 
     // The whole result of the bytes that were read.
