@@ -1,4 +1,11 @@
 pub mod BankLemmas
+pub mod ControlLemmas
+pub mod ControlSteps
 pub mod PlainLemmas
 pub mod ReaderLemmas
+pub mod ReaderSteps
+pub mod RunningLemmas
+pub mod SeatLemmas
+pub mod SeatSteps
+pub mod StartLemmas
 pub mod WorldLemmas

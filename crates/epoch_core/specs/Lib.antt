@@ -1,5 +1,12 @@
+pub mod Closing
+pub mod Follows
 pub mod Laws
 pub mod Plain
+pub mod Plays
+pub mod Rule
+pub mod Running
+pub mod SeatViews
+pub mod Slots
 pub mod Sound
 pub mod Step
 pub mod World

@@ -87,3 +87,44 @@ pub struct Own {
     /// How often it has entered.
     pub enters: u64,
 }
+
+/// What the control knows. Contracts alone speak of it: no value of this type is made.
+pub struct ControlOwn {
+    /// How many readers there are.
+    pub readers: u64,
+    /// The version that it published last.
+    pub version: u64,
+    /// The readers below this number are passed for the next version.
+    pub passed: u64,
+    /// How many scans it has made.
+    pub scans: u64,
+    /// The reader of the last scan, and the announcement that it found.
+    pub found: (u64, u64),
+    /// How many notes it has made.
+    pub made: u64,
+    /// How many readers' seats it has made.
+    pub opened: u64,
+    /// The readers whose seats it has taken in, each with its numbers. A contract reads an array as
+    /// a list.
+    pub ended: [(u64, Own); 0],
+}
+
+/// What a seat at the table is. Contracts alone speak of it.
+pub enum Role {
+    /// A seat that was taken in by another.
+    Spent,
+    /// The seat of the reader of this number.
+    Reader(u64, Own),
+    /// The control's seat.
+    Control(ControlOwn),
+    /// The note of this number, with the version that it was made at.
+    Note(u64, u64),
+}
+
+/// What a seat knows: what its table is for, and what it is. Contracts alone speak of it.
+pub struct View<Q> {
+    /// What the table is for.
+    pub key: Q,
+    /// What the seat is.
+    pub role: Role,
+}

@@ -1,5 +1,5 @@
 -- Lists of paths that the order finds equal are one.
-use Rattle.std.proofs.Common.{◌≡◌, [], ◌∷◌, refl}
+use Rattle.std.proofs.Common.{[], ◌∷◌, refl}
 use Rattle.std.proofs.lemmas.Map.Lookups.{CmpEqualImpliesEq, exact_unsigned}
 use Rattle.prefix_width.specs.Order.{hop_cmp, path_cmp}
 use Rattle.prefix_width.proofs.OrderLemmas.{hop_exact, then_equal}

@@ -8,7 +8,7 @@ use Rattle.prefix_width.specs.Order.{block_cmp}
 use Rattle.rib_store.specs.declared.command.Command.{Command}
 use Rattle.rib_store.specs.declared.command.Command.TheVariants.{Add}
 use Rattle.rib_store.specs.declared.command.Reply.{Reply}
-use Rattle.rib_store.specs.declared.command.Reply.TheVariants.{Added}
+use Rattle.rib_store.specs.declared.command.Reply.TheVariants.{Added, Nothing}
 use Rattle.rib_store.specs.declared.rib.TheConstants.{ADDS_MAX}
 
 -- rows of prefix and paths, in prefix order, one row a prefix
@@ -28,13 +28,16 @@ pub record Outcome : Type 0 where
   pub table : Table
   pub reply : Reply
 
--- apply: an `add` of an absent prefix puts in a row of the one path
+-- apply: an `add` of an absent prefix puts in a row of the one path. No other command may be asked yet; here the
+-- table stays
 abbrev pub apply : {w : _} → Table → Command w → Outcome
 apply rows (Add prefix path) = record { table = put_row rows prefix (path ∷ []); reply = Added }
+apply rows command = record { table = rows; reply = Nothing }
 
 -- what may be asked of the table until every command is built: an `add` of an absent prefix, and few of them
 abbrev pub IsNewRoute : {w : _} → Table → Command w → Type 0
 IsNewRoute rows (Add prefix path) = (paths_at rows prefix ≡ None) × (length rows < ADDS_MAX)
+IsNewRoute rows command = ⊥
 
 -- the table after these commands
 abbrev pub table_of : {w : _} → List (Command w) → Table

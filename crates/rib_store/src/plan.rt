@@ -1,7 +1,12 @@
-ghost use Rattle.std.specs.Prelude.{◌≡◌, ◌<◌, ◌≤◌, ◌↔◌, OnOk, OnErr, IsErrOf, [], ◌∷◌, ◌++◌, length, slice_get, Some};
+ghost use Rattle.std.specs.Prelude.{◌≡◌, ◌-◌, ◌<◌, ◌≤◌, ◌↔◌, OnOk, OnErr, IsErrOf, IsSome, Contains, [], ◌∷◌, ◌++◌, length, slice_get, Some};
+ghost use Rattle.rib_store.specs.Plan.{IsWrongModule, IsNumbering, named, firsts, number_of, with_first};
 
+use crate::OutOfMemory;
 use crate::command::Command;
-use std::alloc::{AllocFailed, Global};
+use prefix_width::Nexthop;
+use std::alloc::{AllocError, AllocFailed, Global};
+use std::collections::BTreeMap;
+use std::collections::btree_map::Entry;
 use std::marker::Model;
 use thiserror::Error;
 
@@ -11,6 +16,9 @@ pub const PLAN_MAX: u32 = 1_048_576;
 /// Why a command was not put into a plan.
 #[derive(Clone, Copy, Debug, PartialEq, Eq, Error)]
 pub enum PushError {
+    /// The command sets dxr, which is for 32 bits alone.
+    #[error("no such module")]
+    WrongModule,
     /// The plan has [`PLAN_MAX`] commands.
     #[error("plan full")]
     PlanFull,
@@ -30,22 +38,38 @@ impl<T: Drop> From<AllocFailed<T>> for PushError {
     }
 }
 
-/// The commands of a family in their order, at most [`PLAN_MAX`].
+impl From<AllocError> for PushError {
+    ghost use Rattle.std.specs.Prelude.{◌≡◌};
+    ghost use Rattle.rib_store.specs.declared.plan.PushError.TheVariants.{OutOfMemory};
+
+    ghost from_gives = { λ _ e. e ≡ OutOfMemory };
+
+    fn from(_: AllocError) -> Self {
+        PushError::OutOfMemory
+    }
+}
+
+/// The commands of a family in their order, at most [`PLAN_MAX`], none of which sets dxr where `W`
+/// isn't 32. The nexthops that its `Add` and `Change` commands name are numbered from 1 by first
+/// appearance.
 #[derive(Debug, Drop)]
 pub struct Plan<const W: u32> {
     commands: Vec<Command<W>>,
+    // The nexthop of number n stands at n - 1.
+    nexthops: Vec<Nexthop<W>>,
+    numbers: BTreeMap<Nexthop<W>, u32>,
 }
 
 impl<const W: u32> Model for Plan<W> {
-    ghost use Rattle.std.specs.Prelude.{List, ◌≤◌, length};
+    ghost use Rattle.std.specs.Prelude.{List};
     ghost use Rattle.rib_store.specs.declared.command.Command.{Command};
-    ghost use Rattle.rib_store.specs.declared.plan.TheConstants.{PLAN_MAX};
+    ghost use Rattle.rib_store.specs.Plan.{IsPlan};
 
     ghost Value = { List (Command W) };
 
     ghost view = { λ p. p.commands.items };
 
-    ghost invariant = { λ p. length p.commands.items ≤ PLAN_MAX };
+    ghost invariant = { λ p. IsPlan p.commands.items p.nexthops.items p.numbers.entries };
 }
 
 impl<const W: u32> Plan<W> {
@@ -55,18 +79,27 @@ impl<const W: u32> Plan<W> {
     {
         Plan {
             commands: Vec::new(alloc),
+            nexthops: Vec::new(alloc),
+            numbers: BTreeMap::new(alloc),
         }
     }
 
-    /// Puts a command behind the others.
+    /// Puts a command behind the others. After an error the plan is as before.
     pub fn push(&mut self, command: Command<W>) -> Result<(), PushError>
         ensures ok { OnOk result (self.new ≡ self.old ++ command.entry ∷ []) }
         ensures err { OnErr result (self.new ≡ self.old) }
-        ensures full { IsErrOf result PushError.PlanFull ↔ (length self.old ≡ PLAN_MAX) }
+        ensures wrong_module { IsErrOf result PushError.WrongModule ↔ IsWrongModule command.entry }
+        ensures full { IsErrOf result PushError.PlanFull
+            ↔ (¬ (IsWrongModule command.entry) × (length self.old ≡ PLAN_MAX)) }
     {
+        if W != 32 && command.sets_dxr() {
+            return Err(PushError::WrongModule);
+        }
         if self.commands.len() == PLAN_MAX as usize {
             return Err(PushError::PlanFull);
         }
+        self.commands.reserve(1)?;
+        give_number(&mut self.nexthops, &mut self.numbers, command.nexthop())?;
         self.commands.push(command)?;
         Ok(())
     }
@@ -84,7 +117,61 @@ impl<const W: u32> Plan<W> {
         requires { pos < length self.now }
         ensures command { slice_get self.now pos ≡ Some result.now }
         ensures most { length self.now ≤ PLAN_MAX }
+        ensures module { ¬ (IsWrongModule result.now) }
     {
         &self.commands[pos as usize]
     }
+
+    /// How many distinct nexthops its `Add` and `Change` commands name, at most [`PLAN_MAX`].
+    pub fn nexthops(&self) -> u32
+        ensures count { result ≡ length (firsts (named self.now)) }
+        ensures most { result ≤ PLAN_MAX }
+    {
+        self.nexthops.len() as u32
+    }
+
+    /// The number of a nexthop, counted from 1 by first appearance. `None` exactly where no `Add`
+    /// or `Change` names it.
+    pub fn number_of(&self, nexthop: &Nexthop<W>) -> Option<u32>
+        ensures number { result ≡ number_of self.now nexthop.now }
+        ensures named { IsSome result ↔ Contains (named self.now) nexthop.now }
+    {
+        self.numbers.get(nexthop).copied()
+    }
+
+    /// The nexthop of a number, counted from 1.
+    pub fn nexthop(&self, number: u32) -> &Nexthop<W>
+        requires some { 1 ≤ number }
+        requires given { number ≤ length (firsts (named self.now)) }
+        ensures { slice_get (firsts (named self.now)) (number - 1) ≡ Some result.now }
+    {
+        &self.nexthops[number as usize - 1]
+    }
+}
+
+/// Gives the nexthop, if there is one, the next number, if it has none yet. Where memory is
+/// wanting, nothing changes.
+fn give_number<const W: u32>(
+    nexthops: &mut Vec<Nexthop<W>>,
+    numbers: &mut BTreeMap<Nexthop<W>, u32>,
+    nexthop: Option<Nexthop<W>>,
+) -> Result<(), OutOfMemory>
+    requires numbering { IsNumbering nexthops.old.items numbers.old.entries }
+    requires room { length nexthops.old.items < PLAN_MAX }
+    ensures ok { OnOk result (nexthops.new.items ≡ with_first nexthops.old.items nexthop.entry) }
+    ensures numbering { IsNumbering nexthops.new.items numbers.new.entries }
+    ensures err { OnErr result (nexthops.new.items ≡ nexthops.old.items) }
+    ensures same { OnErr result (numbers.new.entries ≡ numbers.old.entries) }
+{
+    let Some(nexthop) = nexthop else {
+        return Ok(());
+    };
+    match numbers.entry(nexthop)? {
+        Entry::Occupied(_) => {}
+        Entry::Vacant(place) => {
+            nexthops.push(nexthop)?;
+            place.insert(nexthops.len() as u32);
+        }
+    }
+    Ok(())
 }

@@ -52,10 +52,20 @@ impl<const W: u32> Rib<W> {
         ensures reply { IfOk result (λ reply. reply ≡ (apply self.old command.now).reply) }
         ensures err { OnErr result (self.new ≡ self.old) }
     {
-        let Command::Add { prefix, path } = *command;
-        let paths = Paths::one(alloc, path)?;
-        self.routes.insert(prefix, paths)?;
-        Ok(Reply::Added)
+        match *command {
+            Command::Add { prefix, path } => {
+                let paths = Paths::one(alloc, path)?;
+                self.routes.insert(prefix, paths)?;
+                Ok(Reply::Added)
+            }
+            // No other command may be asked yet.
+            Command::Change { .. }
+            | Command::Delete { .. }
+            | Command::Flush
+            | Command::Tick { .. }
+            | Command::Sync
+            | Command::Algo { .. } => unreachable!(),
+        }
     }
 
     /// How many routes there are.

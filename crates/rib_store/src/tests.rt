@@ -1,13 +1,21 @@
-use crate::{Command, Plan, Reply, Rib};
-use prefix_width::{Addr, Nexthop, Path, Prefix};
+use crate::{Command, Plan, PushError, Reply, Rib};
+use prefix_width::{Addr, Kind, Nexthop, Path, Prefix, Setting};
 use std::test::Fail;
 
+fn via(gateway: u128) -> Option<Nexthop<32>> {
+    Some(Nexthop::via(Addr::new(gateway)?, 0, 0))
+}
+
 fn path(gateway: u128) -> Option<Path<32>> {
-    Path::new(Nexthop::via(Addr::new(gateway)?, 0, 0), 1)
+    Path::new(via(gateway)?, 1)
+}
+
+fn prefix(base: u128, len: u8) -> Option<Prefix<32>> {
+    Prefix::masked(Addr::new(base)?, len)
 }
 
 fn add(base: u128, len: u8, gateway: u128) -> Option<Command<32>> {
-    let prefix = Prefix::masked(Addr::new(base)?, len)?;
+    let prefix = prefix(base, len)?;
     let path = path(gateway)?;
     Some(Command::Add { prefix, path })
 }
@@ -25,19 +33,74 @@ fn a_plan_keeps_its_commands_in_order(rt: HostRuntime) -> Result<(), Fail> {
     Ok(())
 }
 
+#[test]
+fn nexthops_are_numbered_by_first_appearance(rt: HostRuntime) -> Result<(), Fail> {
+    let mut plan = Plan::<32>::new(rt.alloc());
+    let (one, two, three) = (
+        via(1).ok_or("no nexthop")?,
+        via(2).ok_or("no nexthop")?,
+        via(3).ok_or("no nexthop")?,
+    );
+    let ten = prefix(0x0a00_0000, 8).ok_or("no prefix")?;
+    let second = path(2).ok_or("no path")?;
+    let third = Addr::new(3).ok_or("no address")?;
+    plan.push(add(0x0a00_0000, 8, 1).ok_or("no command")?)?;
+    plan.push(Command::Change {
+        prefix: ten,
+        path: second,
+    })?;
+    plan.push(add(0x0b00_0000, 8, 1).ok_or("no command")?)?;
+    plan.push(Command::Flush)?;
+    plan.push(Command::Delete {
+        prefix: ten,
+        gateway: Some(third),
+    })?;
+    assert_eq!(rt; plan.len(), 5);
+    assert_eq!(rt; plan.nexthops(), 2);
+    assert_eq!(rt; plan.number_of(&one), Some(1));
+    assert_eq!(rt; plan.number_of(&two), Some(2));
+    assert_eq!(rt; plan.number_of(&three), None);
+    assert_eq!(rt; *plan.nexthop(2), two);
+    Ok(())
+}
+
+#[test]
+fn dxr_is_for_32_bits_alone(rt: HostRuntime) -> Result<(), Fail> {
+    let setting = Setting::Fixed(Kind::Dxr);
+    let mut inet = Plan::<32>::new(rt.alloc());
+    assert_eq!(rt; inet.push(Command::Algo { setting }), Ok(()));
+    assert_eq!(rt; inet.len(), 1);
+    let mut inet6 = Plan::<128>::new(rt.alloc());
+    assert_eq!(rt;
+        inet6.push(Command::Algo { setting }),
+        Err(PushError::WrongModule)
+    );
+    assert_eq!(rt; inet6.len(), 0);
+    let setting = Setting::Fixed(Kind::Radix);
+    assert_eq!(rt; inet6.push(Command::Algo { setting }), Ok(()));
+    Ok(())
+}
+
 // A /8 with a /16 inside it: the longer answers, whichever came first.
 #[test]
 fn the_longest_route_answers(rt: HostRuntime) -> Result<(), Fail> {
     let alloc = rt.alloc();
     let mut rib = Rib::<32>::new(alloc);
-    let inner = add(0x0a01_0000, 16, 2).ok_or("no command")?;
-    let outer = add(0x0a00_0000, 8, 1).ok_or("no command")?;
+    let narrow = prefix(0x0a01_0000, 16).ok_or("no prefix")?;
+    let wide = prefix(0x0a00_0000, 8).ok_or("no prefix")?;
+    let inner = Command::Add {
+        prefix: narrow,
+        path: path(2).ok_or("no path")?,
+    };
+    let outer = Command::Add {
+        prefix: wide,
+        path: path(1).ok_or("no path")?,
+    };
     assert_eq!(rt; rib.apply(alloc, &inner)?, Reply::Added);
-    let Command::Add { prefix, path: _ } = outer;
-    assert!(rt; *rib.row(0).0 != prefix);
+    assert!(rt; *rib.row(0).0 != wide);
     assert_eq!(rt; rib.apply(alloc, &outer)?, Reply::Added);
     assert_eq!(rt; rib.len(), 2);
-    assert_eq!(rt; *rib.row(0).0, prefix);
+    assert_eq!(rt; *rib.row(0).0, wide);
     for (value, gateway) in [
         (0x09ff_ffff, None),
         (0x0a00_0000, Some(1)),

@@ -1,12 +1,12 @@
 -- The packets are those that the gets gave.
-use Rattle.std.proofs.Common.{◌≡◌, ◌∙◌, ◌||◌, ℕ, ◌+◌, ◌<◌, ◌≤◌, Bool, true, false, cond, nat_lt, lt-ltb, List, [], ◌∷◌, ap, arith, zero-add, refl}
+use Rattle.std.proofs.Common.{◌≡◌, ◌∙◌, ◌||◌, ◌+◌, Bool, true, false, cond, nat_lt, lt-ltb, List, [], ◌∷◌, ap, arith, zero-add, refl}
 use Rattle.std.specs.List.{list_any}
 use Rattle.std.specs.BTreeMap.{is_at}
 use Rattle.std.specs.Ordering.{is_eq}
 use Rattle.prefix_width.specs.Nexthop.{Hop}
 use Rattle.prefix_width.specs.Order.{hop_cmp}
 use Rattle.prefix_width.proofs.OrderLemmas.{hop_total, hop_exact}
-use Rattle.counted_map.specs.Counts.{count_of, times, linked_all}
+use Rattle.counted_map.specs.Counts.{count_of, times}
 use Rattle.counted_map.proofs.CountMapLemmas.{IsCounts-linked_all, linked_all_at, keys_are_distinct}
 use Rattle.route_cli.specs.Packets.{packets_of, CountsGiven}
 use Rattle.route_cli.proofs.ReplayLemmas.{no_counts}

@@ -10,41 +10,40 @@ use Rattle.std.proofs.lemmas.Option.{slice_get_within, get_or_from_slice_get}
 use Rattle.prefix_width.specs.Nexthop.{Hop}
 use Rattle.prefix_width.specs.Order.{hop_cmp}
 use Rattle.prefix_width.proofs.OrderLemmas.{hop_total, hop_exact}
-use Rattle.counted_map.specs.Counts.{Counts, IsCounts, count_of, linked, linked_all, times}
+use Rattle.counted_map.specs.Counts.{Counts, IsCounts, count_of, linked_all}
 use Rattle.counted_map.proofs.CountMapLemmas.{IsCounts-linked, length-linked, linked_at}
 use Rattle.rib_store.specs.declared.command.Command.{Command}
 use Rattle.rib_store.specs.Table.{IsNewRoute, apply, table_of, table_after}
 use Rattle.rib_store.specs.Answer.{answer}
 use Rattle.rib_store.proofs.TableLemmas.{table_after_more, table_after-length}
-use Rattle.route_lang.specs.declared.line.Line.{Line}
-use Rattle.route_lang.specs.declared.line.Line.TheVariants.{Change, Get4}
-use Rattle.route_lang.specs.declared.script.TheConstants.{LINES_MAX}
-use Rattle.route_lang.specs.Script.{Reading, IsInStep, IsAddOnly}
+use Rattle.route_lang.specs.declared.adds_line.AddsLine.{AddsLine}
+use Rattle.route_lang.specs.declared.adds_line.AddsLine.TheVariants.{Change, Get4}
+use Rattle.route_lang.specs.AddsScript.{Reading, IsInStep, IsAddOnly}
 use Rattle.route_cli.specs.Output.{output_of, line_text, numbered, reply_text, reply_at, replied, get_text, version_after, packets_text, plan_text, fib_text}
 use Rattle.route_cli.specs.Packets.{given, given_by, packets_of}
 use Rattle.route_cli.specs.Replay.{HasRoom, IsUnderWay}
 use Rattle.route_cli.specs.declared.serial.Replay.{Replay}
 
 -- the lines from a place on begin with the line there
-pub lines_from_place : (lines : List Line) (i : ℕ) (line : Line) → slice_get lines i ≡ Some line → drop i lines ≡ line ∷ drop (i + 1) lines
+pub lines_from_place : (lines : List AddsLine) (i : ℕ) (line : AddsLine) → slice_get lines i ≡ Some line → drop i lines ≡ line ∷ drop (i + 1) lines
 lines_from_place lines i line e =
     drop_more lines i line (slice_get_within lines i line e) ∙ ap (λ l. l ∷ drop (i + 1) lines) (get_or_from_slice_get lines i line line e)
 
 -- the positions of the lines end with the plan
-pub in_step_le : (len at : ℕ) (lines : List Line) → IsInStep len at lines → at ≤ len
+pub in_step_le : (len at : ℕ) (lines : List AddsLine) → IsInStep len at lines → at ≤ len
 in_step_le len at [] h = omega arith
 in_step_le len at (Change line (Some pos) inet6 ∷ lines) h = let later = in_step_le len (at + 1) lines h.2 in omega arith
 in_step_le len at (Change line None inet6 ∷ lines) h = absurd h
 in_step_le len at (Get4 line addr flow pos ∷ lines) h = in_step_le len at lines h.1
 
 -- the next change is at a position of the plan, and asks for a new route
-pub next_inside : (script : Reading) (line pos : ℕ) (inet6 : Option ℕ) (rest : List Line) (replay : Replay) → IsUnderWay script (Change line (Some pos) inet6 ∷ rest) replay → pos < length script.inet
+pub next_inside : (script : Reading) (line pos : ℕ) (inet6 : Option ℕ) (rest : List AddsLine) (replay : Replay) → IsUnderWay script (Change line (Some pos) inet6 ∷ rest) replay → pos < length script.inet
 next_inside script line pos inet6 rest replay h =
     let here : pos ≡ replay.commands = h.in_step.0 in
     let later = in_step_le (length script.inet) (replay.commands + 1) rest h.in_step.2 in
     omega arith
 
-pub next_new : (script : Reading) (line pos : ℕ) (inet6 : Option ℕ) (c : Command 32) (rest : List Line) (replay : Replay) → IsAddOnly script → IsUnderWay script (Change line (Some pos) inet6 ∷ rest) replay → slice_get script.inet pos ≡ Some c → IsNewRoute replay.rib c
+pub next_new : (script : Reading) (line pos : ℕ) (inet6 : Option ℕ) (c : Command 32) (rest : List AddsLine) (replay : Replay) → IsAddOnly script → IsUnderWay script (Change line (Some pos) inet6 ∷ rest) replay → slice_get script.inet pos ≡ Some c → IsNewRoute replay.rib c
 next_new script line pos inet6 c rest replay form h e =
     subst (λ rows. IsNewRoute rows c) (sym (h.rib ∙ ap (table_after script.inet) (sym h.in_step.0))) (form.new pos c e)
 
@@ -59,7 +58,7 @@ on_ok (Err e) a b c d f = tt
 
 -- ---- a change
 
-pub after_change : (script : Reading) (line pos : ℕ) (inet6 : Option ℕ) (c : Command 32) (rest : List Line) (before after : Replay)
+pub after_change : (script : Reading) (line pos : ℕ) (inet6 : Option ℕ) (c : Command 32) (rest : List AddsLine) (before after : Replay)
     → IsUnderWay script (Change line (Some pos) inet6 ∷ rest) before → slice_get script.inet pos ≡ Some c
     → after.rib ≡ (apply before.rib c).table → after.commands ≡ before.commands + 1 → after.packets ≡ before.packets
     → after.out.items ≡ before.out.items ++ numbered line (reply_text (apply before.rib c).reply)
@@ -100,7 +99,7 @@ room_behind packets (Some h) more room = record {
   all = omega (arith, room.all, length-linked hop_cmp hop_total packets h room.counts, one_or_none (nat_eq (count_of hop_cmp packets h) 0));
 }
 
-pub after_get : (script : Reading) (line addr flow at : ℕ) (rest : List Line) (before after : Replay)
+pub after_get : (script : Reading) (line addr flow at : ℕ) (rest : List AddsLine) (before after : Replay)
     → IsUnderWay script (Get4 line addr flow at ∷ rest) before
     → after.rib ≡ before.rib → after.commands ≡ before.commands
     → after.packets ≡ linked_all hop_cmp before.packets (option_to_list (answer 32 before.rib addr))

@@ -1,10 +1,10 @@
 -- The causes of each status: what it says of the bytes that were read and written.
-use Rattle.std.specs.Prelude.{◌≡◌, ◌⊎◌, ℕ, Bool, true, Some, ◌≤◌, List, length, Option, Result, Ok, Err}
+use Rattle.std.specs.Prelude.{◌≡◌, ◌⊎◌, ℕ, Bool, true, false, Some, ◌≤◌, List, length, Option, Ok, Err}
 use Rattle.std.specs.Io.KnownBytes.{Appends}
 use Rattle.outside_io.specs.Faults.{Rose}
 use Rattle.outside_io.specs.Whole.{ReadsAll, ReadsPast, WritesFront}
 use Rattle.route_lang.specs.declared.fault.Reason.{Reason}
-use Rattle.route_lang.specs.declared.fault.Reason.TheVariants.{TooLarge, NotBuilt}
+use Rattle.route_lang.specs.declared.fault.Reason.TheVariants.{TooLarge}
 use Rattle.route_lang.specs.declared.script.TheConstants.{INPUT_MAX}
 use Rattle.route_cli.specs.Result.{result_of}
 use Rattle.route_cli.specs.declared.job.Job.{Job}
@@ -40,10 +40,17 @@ pub record RefusedAt (job : Job) (left rest : Option (List ℕ)) (line : ℕ) (r
   pub read : WasRead left rest bytes
   pub result : result_of job bytes ≡ Err (record { line = line; reason = reason })
 
+abbrev pub is_too_large : Reason → Bool
+is_too_large TooLarge = true
+is_too_large reason = false
+
+abbrev pub RefusedBy : Bool → Job → Option (List ℕ) → Option (List ℕ) → ℕ → Reason → Type 0
+RefusedBy true job left rest line reason = (line ≡ 0) × ReadsPast INPUT_MAX left rest
+RefusedBy false job left rest line reason = RefusedAt job left rest line reason
+
 -- a refused script: line 0 where the bytes are too many, else the line and the reason of the bytes
 abbrev pub Refuses : Job → Option (List ℕ) → Option (List ℕ) → ℕ → Reason → Type 0
-Refuses job left rest line TooLarge = (line ≡ 0) × ReadsPast INPUT_MAX left rest
-Refuses job left rest line NotBuilt = RefusedAt job left rest line NotBuilt
+Refuses job left rest line reason = RefusedBy (is_too_large reason) job left rest line reason
 
 -- Completeness: bytes within the limit of which the job makes a text, and counts of faults that
 -- don't rise, give Ok or want of memory.

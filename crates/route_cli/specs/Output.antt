@@ -1,5 +1,5 @@
 -- Output: the text of a replay of a script.
-use Rattle.std.specs.Prelude.{ℕ, ◌==◌, List, [], ◌∷◌, ◌++◌, length, Option, Some, None, option_map, slice_get, codes, decimal, if◌then◌else◌}
+use Rattle.std.specs.Prelude.{ℕ, ◌==◌, List, [], ◌++◌, length, Option, Some, None, option_map, slice_get, codes, decimal, if◌then◌else◌}
 use Rattle.std.specs.List.{flat_map}
 use Rattle.prefix_width.specs.declared.nexthop.NhKind.{NhKind}
 use Rattle.prefix_width.specs.declared.nexthop.NhKind.TheVariants.{Via, Direct, Blackhole, Reject}
@@ -7,12 +7,14 @@ use Rattle.prefix_width.specs.Nexthop.{Hop}
 use Rattle.addr_text.specs.Address.{address_text}
 use Rattle.rib_store.specs.declared.command.Command.{Command}
 use Rattle.rib_store.specs.declared.command.Reply.{Reply}
-use Rattle.rib_store.specs.declared.command.Reply.TheVariants.{Added}
+use Rattle.rib_store.specs.declared.command.Reply.TheVariants.{Added, Joined, Changed, Deleted, Flushed, Nothing, Refused}
+use Rattle.rib_store.specs.declared.command.Refusal.{Refusal}
+use Rattle.rib_store.specs.declared.command.Refusal.TheVariants.{Exists, NotFound, PathsFull, TableFull, TargetsFull}
 use Rattle.rib_store.specs.Table.{apply, table_of, table_after}
 use Rattle.rib_store.specs.Answer.{answer}
-use Rattle.route_lang.specs.declared.line.Line.{Line}
-use Rattle.route_lang.specs.declared.line.Line.TheVariants.{Change, Get4}
-use Rattle.route_lang.specs.Script.{Reading}
+use Rattle.route_lang.specs.declared.adds_line.AddsLine.{AddsLine}
+use Rattle.route_lang.specs.declared.adds_line.AddsLine.TheVariants.{Change, Get4}
+use Rattle.route_lang.specs.AddsScript.{Reading}
 use Rattle.route_cli.specs.Packets.{given, packets_of}
 
 -- The last version that these commands made. Each of the first 25 changes at one moment makes a
@@ -26,8 +28,21 @@ version_after commands = commands
 abbrev pub numbered : ℕ → List ℕ → List ℕ
 numbered line text = decimal line ++ (codes " " ++ (text ++ codes "\n"))
 
+abbrev pub refusal_text : Refusal → List ℕ
+refusal_text Exists = codes "exists"
+refusal_text NotFound = codes "not found"
+refusal_text PathsFull = codes "paths full"
+refusal_text TableFull = codes "table full"
+refusal_text TargetsFull = codes "targets full"
+
 abbrev pub reply_text : Reply → List ℕ
 reply_text Added = codes "added"
+reply_text Joined = codes "joined"
+reply_text Changed = codes "changed"
+reply_text Deleted = codes "deleted"
+reply_text (Flushed routes) = codes "flushed " ++ decimal routes
+reply_text Nothing = []
+reply_text (Refused refusal) = codes "refused " ++ refusal_text refusal
 
 -- the interface and the MTU, 0 for what is not given
 abbrev pub link_text : Hop → List ℕ
@@ -60,7 +75,7 @@ replied line None = []
 replied line (Some reply) = numbered line (reply_text reply)
 
 -- what is written for a line of the script
-abbrev pub line_text : List (Command 32) → Line → List ℕ
+abbrev pub line_text : List (Command 32) → AddsLine → List ℕ
 line_text plan (Change line None inet6) = []
 line_text plan (Change line (Some pos) inet6) = replied line (reply_at plan pos)
 line_text plan (Get4 line addr flow at) =

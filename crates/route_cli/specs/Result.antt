@@ -3,7 +3,7 @@ use Rattle.std.specs.Prelude.{◌≡◌, ℕ, List, Result, Ok, Err}
 use Rattle.route_lang.specs.declared.fault.LineFault.{LineFault}
 use Rattle.route_lang.specs.declared.fault.ScriptError.{ScriptError}
 use Rattle.route_lang.specs.declared.fault.ScriptError.TheVariants as script_error
-use Rattle.route_lang.specs.Script.{Reading, script_of}
+use Rattle.route_lang.specs.AddsScript.{Reading, script_of}
 use Rattle.route_cli.specs.Output.{output_of}
 use Rattle.route_cli.specs.declared.job.Job.{Job}
 use Rattle.route_cli.specs.declared.job.Job.TheVariants.{Replay}

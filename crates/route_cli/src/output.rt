@@ -1,13 +1,13 @@
 //! The texts of the output, each appended to what was written before.
 ghost use Rattle.std.specs.Prelude.{◌≡◌, ◌++◌, ◌⊎◌, OnOk, decimal, codes, option_copied};
 ghost use Rattle.addr_text.specs.Address.{IsFamilyWidth};
-ghost use Rattle.route_cli.specs.Output.{numbered, reply_text, get_text, link_text, nexthop_text, target_text, family_name, packets_text, fib_text};
+ghost use Rattle.route_cli.specs.Output.{numbered, reply_text, refusal_text, get_text, link_text, nexthop_text, target_text, family_name, packets_text, fib_text};
 
 use crate::OutOfMemory;
 use addr_text::write_addr;
 use itoa::Buffer;
 use prefix_width::{Addr, Nexthop, NhKind};
-use rib_store::Reply;
+use rib_store::{Refusal, Reply};
 use std::alloc::Global;
 
 /// Appends the line of a reply.
@@ -25,6 +25,30 @@ fn push_reply(reply: Reply, out: &mut Vec<u8>) -> Result<(), OutOfMemory>
 {
     match reply {
         Reply::Added => out.extend_from_slice(b"added"),
+        Reply::Joined => out.extend_from_slice(b"joined"),
+        Reply::Changed => out.extend_from_slice(b"changed"),
+        Reply::Deleted => out.extend_from_slice(b"deleted"),
+        Reply::Flushed(routes) => {
+            out.extend_from_slice(b"flushed ")?;
+            push_number(u64::from(routes), out)
+        }
+        Reply::Nothing => Ok(()),
+        Reply::Refused(refusal) => {
+            out.extend_from_slice(b"refused ")?;
+            out.extend_from_slice(refusal_text(refusal).as_bytes())
+        }
+    }
+}
+
+fn refusal_text(refusal: Refusal) -> &'static str
+    ensures { result.now ≡ refusal_text refusal }
+{
+    match refusal {
+        Refusal::Exists => "exists",
+        Refusal::NotFound => "not found",
+        Refusal::PathsFull => "paths full",
+        Refusal::TableFull => "table full",
+        Refusal::TargetsFull => "targets full",
     }
 }
 

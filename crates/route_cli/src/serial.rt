@@ -4,7 +4,7 @@ ghost use Rattle.prefix_width.specs.Order.{hop_cmp};
 ghost use Rattle.counted_map.specs.Counts.{count_of, linked_all};
 ghost use Rattle.rib_store.specs.Table.{apply, IsNewRoute};
 ghost use Rattle.rib_store.specs.Answer.{answer};
-ghost use Rattle.route_lang.specs.Script.{IsAddOnly, reading_of};
+ghost use Rattle.route_lang.specs.AddsScript.{IsAddOnly, reading_of};
 ghost use Rattle.route_cli.specs.Output.{output_of, numbered, reply_text, get_text, version_after, packets_text};
 ghost use Rattle.route_cli.specs.Replay.{IsUnderWay, HasRoom};
 
@@ -13,11 +13,11 @@ use crate::output::{write_fib, write_get, write_packets, write_reply};
 use counted_map::CountedMap;
 use prefix_width::{Addr, Nexthop};
 use rib_store::{Command, Rib};
-use route_lang::{Line, Script};
+use route_lang::{AddsLine, AddsScript};
 use std::alloc::Global;
 
 /// The output of a script, by a scan of the table at each get.
-pub(crate) fn serial(alloc: Global, script: &Script) -> Result<Vec<u8>, OutOfMemory>
+pub(crate) fn serial(alloc: Global, script: &AddsScript) -> Result<Vec<u8>, OutOfMemory>
     requires { IsAddOnly (reading_of script.now) }
     ensures { IfOk result (λ text. text.items ≡ output_of (reading_of script.now)) }
 {
@@ -54,14 +54,14 @@ impl Replay {
     }
 
     /// Takes the line of a number, counted from 0.
-    fn take_line(&mut self, alloc: Global, script: &Script, i: usize) -> Result<(), OutOfMemory>
+    fn take_line(&mut self, alloc: Global, script: &AddsScript, i: usize) -> Result<(), OutOfMemory>
         requires form { IsAddOnly (reading_of script.now) }
         requires line { i < length script.now.lines }
         requires before { IsUnderWay (reading_of script.now) (drop i script.now.lines) self.old }
         ensures { OnOk result (IsUnderWay (reading_of script.now) (drop (i + 1) script.now.lines) self.new) }
     {
         match *script.lines.get(i) {
-            Line::Change {
+            AddsLine::Change {
                 line,
                 inet,
                 inet6: _,
@@ -69,7 +69,7 @@ impl Replay {
                 Some(pos) => self.run_command(line, alloc, script.inet.command(pos)),
                 None => unreachable!(),
             },
-            Line::Get4 {
+            AddsLine::Get4 {
                 line,
                 addr,
                 flow: _,
@@ -112,7 +112,7 @@ impl Replay {
     }
 
     /// The text so far, with what comes behind the lines.
-    fn finish(self, alloc: Global, script: &Script) -> Result<Vec<u8>, OutOfMemory>
+    fn finish(self, alloc: Global, script: &AddsScript) -> Result<Vec<u8>, OutOfMemory>
         requires form { IsAddOnly (reading_of script.now) }
         requires before { IsUnderWay (reading_of script.now) [] self }
         ensures { IfOk result (λ text. text.items ≡ output_of (reading_of script.now)) }

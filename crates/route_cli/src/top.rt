@@ -11,7 +11,7 @@ use crate::serial::serial;
 use crate::status::Status;
 use crate::words::takes;
 use outside_io::{ReadError, Sink, Source, read_all, write_all};
-use route_lang::{INPUT_MAX, Reason, ScriptError, read_script};
+use route_lang::{INPUT_MAX, Reason, ScriptError, read_adds};
 use std::alloc::Global;
 
 /// All that the program does: it reads the words, then the source, then the script in it, does
@@ -122,7 +122,7 @@ fn result_text(alloc: Global, job: Job, bytes: &[u8]) -> Result<Vec<u8>, ScriptE
 {
     match job {
         Job::Replay => {
-            let script = read_script(alloc, bytes)?;
+            let script = read_adds(alloc, bytes)?;
             let text = serial(alloc, &script)?;
             Ok(text)
         }

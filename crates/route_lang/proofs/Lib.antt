@@ -1,2 +1,4 @@
-pub mod ScriptLemmas
+pub mod AddsLemmas
+pub mod ReadingLemmas
 pub mod TextLemmas
+pub mod WalkLemmas

@@ -1,48 +1,222 @@
--- What the words of one line ask for.
-use Rattle.std.specs.Prelude.{ℕ, ◌==◌, Bool, nat_lt, List, [], ◌∷◌, length, Option, Some, None, option_map, slice_index, bytes_eq, codes, if◌then◌else◌}
-use Rattle.prefix_width.specs.declared.nexthop.NhKind.TheVariants.{Via}
+-- What a line asks for: the commands that its words make, or the first reason against it.
+use Rattle.std.specs.Prelude.{◌≡◌, ℕ, ◌==◌, ◌||◌, ◌&&◌, Bool, true, false, nat_lt, nat_le, List, [], ◌∷◌, length, Option, Some, None, option_map, Result, Ok, Err, slice_index, bytes_eq, codes, if◌then◌else◌}
+use Rattle.std.specs.List.{list_any, list_all}
 use Rattle.prefix_width.specs.Prefix.{Block}
 use Rattle.prefix_width.specs.Path.{WeightedHop}
-use Rattle.addr_text.specs.Address.{ipv4_of}
-use Rattle.addr_text.specs.PrefixText.{block_of}
-use Rattle.route_lang.specs.Text.{words_of}
+use Rattle.prefix_width.specs.declared.nexthop.NhKind.{NhKind}
+use Rattle.prefix_width.specs.declared.nexthop.NhKind.TheVariants as kind
+use Rattle.prefix_width.specs.declared.module.Kind.TheVariants.{Scan, Range, Radix, Dxr}
+use Rattle.prefix_width.specs.declared.module.Setting.{Setting}
+use Rattle.prefix_width.specs.declared.module.Setting.TheVariants.{Auto, Fixed}
+use Rattle.addr_text.specs.Address.{address_of}
+use Rattle.addr_text.specs.Number.{number_of}
+use Rattle.addr_text.specs.PrefixText.{block_of, is_slash}
+use Rattle.rib_store.specs.declared.command.Command.{Command}
+use Rattle.rib_store.specs.declared.command.Command.TheVariants as command
+use Rattle.rib_store.specs.Plan.{IsWrongModule}
+use Rattle.route_lang.specs.declared.fault.Reason.{Reason}
+use Rattle.route_lang.specs.declared.fault.Reason.TheVariants.{TooManyLines, LineTooLong, BadByte, UnknownCommand, MissingWord, BadNumber, BadAddress, BadLength, NoTarget, NoModule}
+use Rattle.route_lang.specs.declared.verb.Verb.{Verb}
+use Rattle.route_lang.specs.declared.verb.Verb.TheVariants as verb
+use Rattle.route_lang.specs.declared.verb.Flag.{Flag}
+use Rattle.route_lang.specs.declared.verb.Flag.TheVariants as flag
 use Rattle.route_lang.specs.declared.asked.Asked.{Asked}
-use Rattle.route_lang.specs.declared.asked.Asked.TheVariants.{Nothing, Add, Get}
-use Rattle.route_lang.specs.declared.script.TheConstants.{LINE_MAX}
+use Rattle.route_lang.specs.declared.asked.Asked.TheVariants.{Nothing, Inet, Inet6, Both, Get4, Get6}
+use Rattle.route_lang.specs.declared.asked.Shared.TheVariants as shared
+use Rattle.route_lang.specs.declared.script.TheConstants.{LINES_MAX, LINE_MAX}
+use Rattle.route_lang.specs.Text.{is_blank, words_of}
+use Rattle.route_lang.specs.Verb.{verb_of}
+use Rattle.route_lang.specs.Walk.{Met, nothing_met, walk_from, ◌>>=◌}
 
--- a lone path to a gateway, with neither interface nor MTU given
-abbrev pub path_via : ℕ → WeightedHop
-path_via gateway = record { nexthop = record { kind = Via; gateway = gateway; iface = 0; mtu = 0 }; weight = 1 }
+-- ---- words after the walk
 
--- an `add`, where destination and gateway can be read
-abbrev pub add_by : Option Block → Option ℕ → Option Asked
-add_by (Some prefix) (Some gateway) = Some (Add prefix (path_via gateway))
-add_by (Some prefix) None = None
-add_by None gateway = None
+-- the word, or the reason why it is refused
+abbrev pub or_reason : {A : Type 0} → Reason → Option A → Result A Reason
+or_reason reason None = Err reason
+or_reason reason (Some x) = Ok x
 
--- `add DEST GATEWAY`: the words behind the first
-abbrev pub add_of : List (List ℕ) → Option Asked
-add_of (destination ∷ gateway ∷ []) = add_by (block_of 32 destination) (ipv4_of gateway)
-add_of words = None
+-- whether a destination is an address alone
+abbrev pub is_alone : List ℕ → Bool
+is_alone word = if bytes_eq word (codes "default") then false else if list_any is_slash word then false else true
 
--- `get ADDR`: the words behind the first
-abbrev pub get_of : List (List ℕ) → Option Asked
-get_of (address ∷ []) = option_map Get (ipv4_of address)
-get_of words = None
+-- whether `-net` or `-host` agrees with the destination that a word writes
+abbrev pub agrees : ℕ → Option Flag → List ℕ → Block → Bool
+agrees w (Some flag.Net) word b = if is_alone word then false else true
+agrees w (Some flag.Host) word b = b.len == w
+agrees w extent word b = true
+
+abbrev pub agreeing : ℕ → Option Flag → List ℕ → Block → Result Block Reason
+agreeing w extent word b = if agrees w extent word b then Ok b else Err BadLength
+
+-- the destination
+abbrev pub destination_of : ℕ → Met → Result Block Reason
+destination_of w met =
+    or_reason MissingWord met.first >>= (λ word. or_reason BadAddress (block_of w word) >>= agreeing w met.extent word)
+
+abbrev pub gateway_by : ℕ → Option (List ℕ) → Result (Option ℕ) Reason
+gateway_by w None = Ok None
+gateway_by w (Some word) = or_reason BadAddress (option_map Some (address_of w word))
+
+-- the gateway, where there is one
+abbrev pub gateway_of : ℕ → Met → Result (Option ℕ) Reason
+gateway_of w met = gateway_by w met.second
+
+-- the address of a get
+abbrev pub address_asked : ℕ → Met → Result ℕ Reason
+address_asked w met = or_reason MissingWord met.first >>= (λ word. or_reason BadAddress (address_of w word))
+
+-- ---- the path of an `add` or a `change`
+
+-- a value, or what it is where it isn't given
+abbrev pub value_or : ℕ → Option ℕ → ℕ
+value_or absent None = absent
+value_or absent (Some n) = n
+
+-- a path that drops packets
+abbrev pub dropping : NhKind → WeightedHop
+dropping k = record { nexthop = record { kind = k; gateway = 0; iface = 0; mtu = 0 }; weight = 1 }
+
+-- a path to a gateway or, without one, to the destination itself on an interface
+abbrev pub leading : Option ℕ → Option ℕ → ℕ → ℕ → Result WeightedHop Reason
+leading (Some gateway) iface mtu weight =
+    Ok (record { nexthop = record { kind = kind.Via; gateway = gateway; iface = value_or 0 iface; mtu = mtu }; weight = weight })
+leading None (Some iface) mtu weight =
+    Ok (record { nexthop = record { kind = kind.Direct; gateway = 0; iface = iface; mtu = mtu }; weight = weight })
+leading None None mtu weight = Err NoTarget
+
+abbrev pub path_by : Option Flag → Met → Option ℕ → Result WeightedHop Reason
+path_by (Some flag.Blackhole) met gateway = Ok (dropping kind.Blackhole)
+path_by (Some flag.Reject) met gateway = Ok (dropping kind.Reject)
+path_by discard met gateway = leading gateway met.iface (value_or 0 met.mtu) (value_or 1 met.weight)
+
+-- the path that options and gateway give
+abbrev pub path_of : Met → Option ℕ → Result WeightedHop Reason
+path_of met gateway = path_by met.discard met gateway
+
+-- the path that options and words give
+abbrev pub path_asked : ℕ → Met → Result WeightedHop Reason
+path_asked w met = gateway_of w met >>= path_of met
+
+-- ---- commands
+
+abbrev pub add_of : (w : ℕ) → Met → Result (Command w) Reason
+add_of w met = destination_of w met >>= (λ b. path_asked w met >>= (λ p. Ok (command.Add b p)))
+
+abbrev pub change_of : (w : ℕ) → Met → Result (Command w) Reason
+change_of w met = destination_of w met >>= (λ b. path_asked w met >>= (λ p. Ok (command.Change b p)))
+
+abbrev pub delete_of : (w : ℕ) → Met → Result (Command w) Reason
+delete_of w met = destination_of w met >>= (λ b. gateway_of w met >>= (λ g. Ok (command.Delete b g)))
+
+-- the module that a word names; dxr is for 32 bits alone
+abbrev pub setting_of : ℕ → List ℕ → Option Setting
+setting_of w word =
+    if bytes_eq word (codes "auto") then Some Auto
+    else if bytes_eq word (codes "scan") then Some (Fixed Scan)
+    else if bytes_eq word (codes "range") then Some (Fixed Range)
+    else if bytes_eq word (codes "radix") then Some (Fixed Radix)
+    else if bytes_eq word (codes "dxr") && w == 32 then Some (Fixed Dxr)
+    else None
+
+abbrev pub setting_asked : ℕ → Met → Result Setting Reason
+setting_asked w met = or_reason MissingWord met.first >>= (λ word. or_reason NoModule (setting_of w word))
+
+-- a setting that a family of this width may have
+abbrev pub IsModuleOf : ℕ → Setting → Type 0
+IsModuleOf w (Fixed Dxr) = w ≡ 32
+IsModuleOf w setting = Unit {0}
+
+abbrev pub algo_of : (w : ℕ) → Met → Result (Command w) Reason
+algo_of w met = setting_asked w met >>= (λ s. Ok (command.Algo s))
+
+-- a command of one family: what is none of the others is a flush
+abbrev pub command_of : (w : ℕ) → Verb → Met → Result (Command w) Reason
+command_of w verb.Add met = add_of w met
+command_of w verb.Change met = change_of w met
+command_of w verb.Delete met = delete_of w met
+command_of w verb.Algo met = algo_of w met
+command_of w verb met = Ok command.Flush
+
+-- ---- what a command asks for
+
+-- whether the family is inet6; without an option it is inet
+abbrev pub is_inet6 : Option Flag → Bool
+is_inet6 (Some flag.Inet6) = true
+is_inet6 family = false
+
+abbrev pub tick_of : Met → Result Asked Reason
+tick_of met = or_reason MissingWord met.first >>= (λ word. or_reason BadNumber (number_of word) >>= (λ ms. Ok (Both (shared.Tick ms))))
+
+abbrev pub get_of : Met → Result Asked Reason
+get_of met =
+    if is_inet6 met.family then address_asked 128 met >>= (λ a. Ok (Get6 a (value_or 0 met.flow)))
+    else address_asked 32 met >>= (λ a. Ok (Get4 a (value_or 0 met.flow)))
+
+abbrev pub one_family : Verb → Met → Result Asked Reason
+one_family verb met =
+    if is_inet6 met.family then command_of 128 verb met >>= (λ c. Ok (Inet6 c))
+    else command_of 32 verb met >>= (λ c. Ok (Inet c))
+
+-- a flush without a family is of both
+abbrev pub flush_of : Option Flag → Met → Result Asked Reason
+flush_of None met = Ok (Both shared.Flush)
+flush_of (Some family) met = one_family verb.Flush met
+
+-- what a command asks for, after the walk over its words
+abbrev pub asked_by : Verb → Met → Result Asked Reason
+asked_by verb.Tick met = tick_of met
+asked_by verb.Sync met = Ok (Both shared.Sync)
+asked_by verb.Get met = get_of met
+asked_by verb.Flush met = flush_of met.family met
+asked_by verb met = one_family verb met
+
+-- a command of one family sets no module that is not for it
+abbrev pub HasOwnModule : Asked → Type 0
+HasOwnModule (Inet c) = ¬ (IsWrongModule c)
+HasOwnModule (Inet6 c) = ¬ (IsWrongModule c)
+HasOwnModule asked = Unit {0}
+
+-- ---- the line
+
+-- a byte of a line that is no comment
+abbrev pub is_taken : ℕ → Bool
+is_taken byte = is_blank byte || (nat_le 33 byte && nat_le byte 126)
 
 -- whether a line with this first word is a comment
 abbrev pub is_comment : List ℕ → Bool
 is_comment word = slice_index word 0 == 35
 
--- the words of a line, or None where they are not built
-abbrev pub asked_by : List (List ℕ) → Option Asked
-asked_by [] = Some Nothing
-asked_by (first ∷ words) =
-    if is_comment first then Some Nothing
-    else if bytes_eq first (codes "add") then add_of words
-    else if bytes_eq first (codes "get") then get_of words
-    else None
+-- `-n` and `-q`, which route(8) takes before its command
+abbrev pub is_ignored : List ℕ → Bool
+is_ignored word = bytes_eq word (codes "-n") || bytes_eq word (codes "-q")
 
--- a line that is not too long
-abbrev pub asked_of : List ℕ → Option Asked
-asked_of line = if nat_lt LINE_MAX (length line) then None else asked_by (words_of line)
+abbrev pub behind_ignored : List (List ℕ) → List (List ℕ)
+behind_ignored [] = []
+behind_ignored (word ∷ words) = if is_ignored word then behind_ignored words else word ∷ words
+
+-- the words from the command word on: a first word `route` is skipped, and what is ignored behind it
+abbrev pub from_command : List (List ℕ) → List (List ℕ)
+from_command [] = []
+from_command (word ∷ words) = if bytes_eq word (codes "route") then behind_ignored words else word ∷ words
+
+abbrev pub by_verb : Option Verb → List (List ℕ) → Result Asked Reason
+by_verb None words = Err UnknownCommand
+by_verb (Some verb) words = walk_from verb nothing_met words >>= asked_by verb
+
+abbrev pub by_command : List (List ℕ) → Result Asked Reason
+by_command [] = Err MissingWord
+by_command (word ∷ words) = by_verb (verb_of word) words
+
+-- the words of a line that is not too long
+abbrev pub by_words : List ℕ → List (List ℕ) → Result Asked Reason
+by_words line [] = Ok Nothing
+by_words line (first ∷ words) =
+    if is_comment first then Ok Nothing
+    else if list_all is_taken line then by_command (from_command (first ∷ words)) else Err BadByte
+
+-- what the line of a number asks for, or the first reason against it
+abbrev pub asked_of : ℕ → List ℕ → Result Asked Reason
+asked_of at line =
+    if nat_lt LINES_MAX at then Err TooManyLines
+    else if nat_lt LINE_MAX (length line) then Err LineTooLong
+    else by_words line (words_of line)

@@ -1,25 +1,25 @@
--- Script grammar: a text is a plan and the lines that speak of it, or its first line that is not in the form.
-use Rattle.std.specs.Prelude.{◌≡◌, ℕ, ◌+◌, ◌≤◌, ◌==◌, ◌&&◌, not, true, Bool, nat_lt, List, [], ◌∷◌, ◌++◌, length, slice_get, Option, Some, None, Result, Ok, Err, if◌then◌else◌}
-use Rattle.std.specs.List.{list_any}
+-- Script grammar: a text is the plans of both families and the lines that speak of them, or its first faulty line
+-- with the first reason against it.
+use Rattle.std.specs.Prelude.{◌≡◌, ◌≤◌, ℕ, ◌+◌, Bool, true, false, nat_lt, List, [], ◌∷◌, ◌++◌, length, Option, Some, None, Result, Ok, Err, if◌then◌else◌}
 use Rattle.std.specs.Arc.{arc_value}
-use Rattle.prefix_width.specs.Prefix.{Block}
-use Rattle.prefix_width.specs.Path.{WeightedHop}
 use Rattle.rib_store.specs.declared.command.Command.{Command}
 use Rattle.rib_store.specs.declared.command.Command.TheVariants as command
-use Rattle.rib_store.specs.Table.{IsNewRoute, table_after}
 use Rattle.route_lang.specs.Text.{lines_of}
 use Rattle.route_lang.specs.Asked.{asked_of}
 use Rattle.route_lang.specs.declared.asked.Asked.{Asked}
-use Rattle.route_lang.specs.declared.asked.Asked.TheVariants.{Nothing, Add, Get}
+use Rattle.route_lang.specs.declared.asked.Asked.TheVariants.{Nothing, Inet, Inet6, Both, Get4, Get6}
+use Rattle.route_lang.specs.declared.asked.Shared.{Shared}
+use Rattle.route_lang.specs.declared.asked.Shared.TheVariants as shared
 use Rattle.route_lang.specs.declared.line.Line.{Line}
-use Rattle.route_lang.specs.declared.line.Line.TheVariants.{Change, Get4}
+use Rattle.route_lang.specs.declared.line.Line.TheVariants as line
 use Rattle.route_lang.specs.declared.fault.LineFault.{LineFault}
-use Rattle.route_lang.specs.declared.fault.Reason.TheVariants.{TooLarge, NotBuilt}
+use Rattle.route_lang.specs.declared.fault.Reason.{Reason}
+use Rattle.route_lang.specs.declared.fault.Reason.TheVariants.{TooLarge}
 use Rattle.route_lang.specs.declared.fault.ScriptError.{ScriptError}
 use Rattle.route_lang.specs.declared.fault.ScriptError.TheVariants as script_error
 use Rattle.route_lang.specs.declared.script.Script.{Script}
-use Rattle.route_lang.specs.declared.script.TheConstants.{INPUT_MAX, LINES_MAX}
-use Rattle.rib_store.specs.declared.rib.TheConstants.{ADDS_MAX}
+use Rattle.route_lang.specs.declared.script.Plans.{Plans}
+use Rattle.route_lang.specs.declared.script.TheConstants.{INPUT_MAX}
 
 -- what a script is seen as: the plan of each family, and the lines in their order
 pub record Reading : Type 0 where
@@ -34,45 +34,68 @@ reading_of script = record {
   lines = script.lines;
 }
 
--- whether a command adds a route of this prefix
-abbrev pub adds : Block → Command 32 → Bool
-adds b (command.Add prefix path) = b.base == prefix.base && b.len == prefix.len
+-- ---- what a line adds
 
--- whether an `add` of the prefix is in the form behind these: its prefix is new, and they are not too many
-abbrev pub may_add : List (Command 32) → Block → Bool
-may_add plan b = nat_lt (length plan) ADDS_MAX && not (list_any (adds b) plan)
+-- the command of a family that both families get
+abbrev pub shared_command : {w : ℕ} → Shared → Command w
+shared_command shared.Flush = command.Flush
+shared_command (shared.Tick ms) = command.Tick ms
+shared_command shared.Sync = command.Sync
 
--- the plan behind a line
-abbrev pub plan_behind : List (Command 32) → Option Asked → List (Command 32)
-plan_behind plan (Some (Add prefix path)) = plan ++ command.Add prefix path ∷ []
-plan_behind plan asked = plan
+-- the plans with what a line asks for behind them
+abbrev pub plans_behind : Plans → Asked → Plans
+plans_behind plans Nothing = plans
+plans_behind plans (Inet c) = record plans { inet = plans.inet ++ c ∷ [] }
+plans_behind plans (Inet6 c) = record plans { inet6 = plans.inet6 ++ c ∷ [] }
+plans_behind plans (Both s) = record plans { inet = plans.inet ++ shared_command s ∷ []; inet6 = plans.inet6 ++ shared_command s ∷ [] }
+plans_behind plans (Get4 addr flow) = plans
+plans_behind plans (Get6 addr flow) = plans
 
--- a line before those below
-abbrev pub with_line : Line → Result Reading LineFault → Result Reading LineFault
-with_line line (Ok below) = Ok (record below { lines = line ∷ below.lines })
-with_line line (Err fault) = Err fault
+-- a command that asks nothing of the table
+abbrev pub is_quiet : {w : ℕ} → Command w → Bool
+is_quiet (command.Tick ms) = true
+is_quiet command.Sync = true
+is_quiet (command.Algo setting) = true
+is_quiet c = false
 
--- line `at`, behind these adds, before what the lines below are
-abbrev pub then_lines : ℕ → List (Command 32) → Option Asked → Result Reading LineFault → Result Reading LineFault
-then_lines at plan None below = Err (record { line = at; reason = NotBuilt })
-then_lines at plan (Some Nothing) below = below
-then_lines at plan (Some (Add prefix path)) below =
-    if may_add plan prefix then with_line (Change at (Some (length plan)) None) below
-    else Err (record { line = at; reason = NotBuilt })
-then_lines at plan (Some (Get addr)) below = with_line (Get4 at addr 0 (length plan)) below
+-- the line of a command that stands at these positions of the plans
+abbrev pub command_line : Bool → ℕ → Option ℕ → Option ℕ → Line
+command_line quiet at inet inet6 = if quiet then line.Quiet at inet inet6 else line.Change at inet inet6
 
--- the lines from number `at` on, behind these adds
-abbrev pub lines_from : ℕ → List (Command 32) → List (List ℕ) → Result Reading LineFault
-lines_from at plan [] = Ok (record { inet = plan; inet6 = []; lines = [] })
-lines_from at plan (line ∷ lines) =
-    if nat_lt LINES_MAX at then Err (record { line = at; reason = NotBuilt })
-    else then_lines at plan (asked_of line) (lines_from (at + 1) (plan_behind plan (asked_of line)) lines)
+-- what a line puts behind the lines, where these plans stand before it
+abbrev pub entries_of : ℕ → Plans → Asked → List Line
+entries_of at plans Nothing = []
+entries_of at plans (Inet c) = command_line (is_quiet c) at (Some (length plans.inet)) None ∷ []
+entries_of at plans (Inet6 c) = command_line (is_quiet c) at None (Some (length plans.inet6)) ∷ []
+entries_of at plans (Both s) = command_line (is_quiet {w = 32} (shared_command s)) at (Some (length plans.inet)) (Some (length plans.inet6)) ∷ []
+entries_of at plans (Get4 addr flow) = line.Get4 at addr flow (length plans.inet) ∷ []
+entries_of at plans (Get6 addr flow) = line.Get6 at addr flow (length plans.inet6) ∷ []
+
+-- ---- lines in turn
+
+-- these lines before those below
+abbrev pub with_front : List Line → Result Reading LineFault → Result Reading LineFault
+with_front front (Ok below) = Ok (record below { lines = front ++ below.lines })
+with_front front (Err fault) = Err fault
+
+-- what the lines below a line are, given what they are behind the plans that it leaves
+abbrev pub then_lines : ℕ → Plans → Result Asked Reason → (Plans → Result Reading LineFault) → Result Reading LineFault
+then_lines at plans (Err reason) below = Err (record { line = at; reason = reason })
+then_lines at plans (Ok asked) below = with_front (entries_of at plans asked) (below (plans_behind plans asked))
+
+-- the lines from number `at` on, behind these plans
+abbrev pub lines_from : ℕ → Plans → List (List ℕ) → Result Reading LineFault
+lines_from at plans [] = Ok (record { inet = plans.inet; inet6 = plans.inet6; lines = [] })
+lines_from at plans (text ∷ lines) = then_lines at plans (asked_of at text) (λ behind. lines_from (at + 1) behind lines)
+
+abbrev pub no_plans : Plans
+no_plans = record { inet = []; inet6 = [] }
 
 -- the script of these bytes, or its first line that is refused; line 0 where they are too many
 abbrev pub script_of : List ℕ → Result Reading LineFault
 script_of bytes =
     if nat_lt INPUT_MAX (length bytes) then Err (record { line = 0; reason = TooLarge })
-    else lines_from 1 [] (lines_of bytes)
+    else lines_from 1 no_plans (lines_of bytes)
 
 -- what a reader answers is what the definition says, unless memory is wanting
 abbrev pub GivesScript : Result Script ScriptError → Result Reading LineFault → Type 0
@@ -82,50 +105,15 @@ GivesScript (Err script_error.OutOfMemory) reading = Unit {0}
 
 -- ---- one line of the reading
 
--- these lines before those below
-abbrev pub with_front : List Line → Result Reading LineFault → Result Reading LineFault
-with_front front (Ok below) = Ok (record below { lines = front ++ below.lines })
-with_front front (Err fault) = Err fault
-
 -- a line is taken in: the reading of it and any lines below goes on behind what was read
-abbrev pub TakesLine : ℕ → List ℕ → List (Command 32) → List Line → List (Command 32) → List Line → Type 0
-TakesLine at line plan front more_plan more_front =
-    (below : List (List ℕ)) → with_front more_front (lines_from (at + 1) more_plan below) ≡ with_front front (lines_from at plan (line ∷ below))
+abbrev pub TakesLine : ℕ → List ℕ → Plans → List Line → Plans → List Line → Type 0
+TakesLine at text plans front more_plans more_front =
+    (below : List (List ℕ)) → with_front more_front (lines_from (at + 1) more_plans below) ≡ with_front front (lines_from at plans (text ∷ below))
 
 -- a line is refused, whatever lines are below
-abbrev pub RefusesLine : ℕ → List ℕ → List (Command 32) → LineFault → Type 0
-RefusesLine at line plan fault = (below : List (List ℕ)) → lines_from at plan (line ∷ below) ≡ Err fault
+abbrev pub RefusesLine : ℕ → List ℕ → Plans → LineFault → Type 0
+RefusesLine at text plans fault = (below : List (List ℕ)) → lines_from at plans (text ∷ below) ≡ Err fault
 
--- the same of what a line asks for
-abbrev pub TakesAsked : ℕ → Asked → List (Command 32) → List Line → List (Command 32) → List Line → Type 0
-TakesAsked at asked plan front more_plan more_front =
-    (more_plan ≡ plan_behind plan (Some asked))
-    × ((below : Result Reading LineFault) → with_front more_front below ≡ with_front front (then_lines at plan (Some asked) below))
-
-abbrev pub RefusesAsked : ℕ → Asked → List (Command 32) → LineFault → Type 0
-RefusesAsked at asked plan fault = (below : Result Reading LineFault) → then_lines at plan (Some asked) below ≡ Err fault
-
--- an `add` is taken in
-abbrev pub TakesAdd : ℕ → Block → WeightedHop → List (Command 32) → List Line → List (Command 32) → List Line → Type 0
-TakesAdd at prefix path plan front more_plan more_front =
-    (may_add plan prefix ≡ true) × (more_plan ≡ plan ++ command.Add prefix path ∷ []) × (more_front ≡ front ++ Change at (Some (length plan)) None ∷ [])
-
--- ---- what every script of this form is
-
--- the positions of the lines follow one another from `at` to the plan's end
-abbrev pub IsInStep : ℕ → ℕ → List Line → Type 0
-IsInStep len at [] = at ≡ len
-IsInStep len at (Change line (Some pos) inet6 ∷ lines) = (pos ≡ at) × (inet6 ≡ None) × IsInStep len (at + 1) lines
-IsInStep len at (Change line None inet6 ∷ lines) = ⊥
-IsInStep len at (Get4 line addr flow pos ∷ lines) = (pos ≡ at) × IsInStep len at lines
-
--- a script of this form: each command of its one plan adds a new route, and its lines are in step with the plan
-pub record IsAddOnly (reading : Reading) : Type 0 where
-  pub new : (pos : ℕ) (c : Command 32) → slice_get reading.inet pos ≡ Some c → IsNewRoute (table_after reading.inet pos) c
-  pub inet6 : reading.inet6 ≡ []
-  pub in_step : IsInStep (length reading.inet) 0 reading.lines
-  pub few : length reading.lines ≤ LINES_MAX
-
--- every script that the grammar gives is of this form
-abbrev pub AddsAreNew : Type 0
-AddsAreNew = (bytes : List ℕ) (reading : Reading) → script_of bytes ≡ Ok reading → IsAddOnly reading
+-- no more commands in either plan than this
+abbrev pub HasAtMost : ℕ → Plans → Type 0
+HasAtMost n plans = (length plans.inet ≤ n) × (length plans.inet6 ≤ n)

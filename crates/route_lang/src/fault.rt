@@ -10,6 +10,32 @@ use thiserror::Error;
 pub enum Reason {
     /// The script has more than [`INPUT_MAX`](crate::INPUT_MAX) bytes.
     TooLarge = 1,
+    /// The line is past the [`LINES_MAX`](crate::LINES_MAX) that a script may have.
+    TooManyLines = 2,
+    /// The line has more than [`LINE_MAX`](crate::LINE_MAX) bytes.
+    LineTooLong = 3,
+    /// A byte is neither a blank nor of the printable ones of ASCII.
+    BadByte = 4,
+    /// The command word names no command.
+    UnknownCommand = 5,
+    /// The command has no such option.
+    UnknownOption = 6,
+    /// An option, or the other one of its pair, is given twice.
+    Repeated = 7,
+    /// A word that is needed is missing.
+    MissingWord = 8,
+    /// A number is not in its form or not in its range.
+    BadNumber = 9,
+    /// A word is more than the command has.
+    ExtraWord = 10,
+    /// A destination, an address or a gateway is none of the family.
+    BadAddress = 11,
+    /// `-net` or `-host` does not agree with the destination.
+    BadLength = 12,
+    /// A route leads nowhere: no gateway, no interface, and not to be dropped.
+    NoTarget = 13,
+    /// The word names no module, or one that is not for the family.
+    NoModule = 14,
     /// The line is of a form that is not built yet.
     NotBuilt = 15,
 }
@@ -21,6 +47,19 @@ impl Reason {
     {
         match self {
             Reason::TooLarge => "input too large",
+            Reason::TooManyLines => "too many lines",
+            Reason::LineTooLong => "line too long",
+            Reason::BadByte => "bad byte",
+            Reason::UnknownCommand => "unknown command",
+            Reason::UnknownOption => "unknown option",
+            Reason::Repeated => "repeated option",
+            Reason::MissingWord => "missing word",
+            Reason::BadNumber => "bad number",
+            Reason::ExtraWord => "extra word",
+            Reason::BadAddress => "bad address",
+            Reason::BadLength => "bad length",
+            Reason::NoTarget => "no target",
+            Reason::NoModule => "no such module",
             Reason::NotBuilt => "not built",
         }
     }

@@ -6,16 +6,29 @@ use std::marker::Model;
 /// A line of a script that asks for something. Blank lines and comments are none.
 #[derive(Clone, Copy, Debug, PartialEq, Eq)]
 pub enum Line {
-    /// A command that may change the table of a family: its positions in the plans, counted from 0.
+    /// An `add`, `change`, `delete` or `flush`: its positions in the plans, counted from 0.
     Change {
         line: u32,
         inet: Option<u32>,
         inet6: Option<u32>,
     },
-    /// A lookup of an IPv4 address. `at` is how many commands of the plan come before it.
+    /// A `tick`, `sync` or `algo`: its positions in the plans, counted from 0.
+    Quiet {
+        line: u32,
+        inet: Option<u32>,
+        inet6: Option<u32>,
+    },
+    /// A lookup of an IPv4 address. `at` is how many commands of its plan come before it.
     Get4 {
         line: u32,
         addr: Addr<32>,
+        flow: u32,
+        at: u32,
+    },
+    /// A lookup of an IPv6 address. `at` is how many commands of its plan come before it.
+    Get6 {
+        line: u32,
+        addr: Addr<128>,
         flow: u32,
         at: u32,
     },

@@ -1,14 +1,15 @@
-ghost use Rattle.std.specs.Prelude.{◌≡◌, ◌≤◌, OnOk, IsErrOf, false};
-ghost use Rattle.std.specs.List.{list_any};
-ghost use Rattle.route_lang.specs.Script.{script_of, GivesScript, TakesLine, TakesAsked, TakesAdd, RefusesLine, RefusesAsked, may_add, adds, AddsAreNew};
-ghost use Rattle.route_lang.specs.declared.fault.Reason.TheVariants.{NotBuilt};
+ghost use Rattle.std.specs.Prelude.{◌≡◌, ◌<◌, ◌≤◌, ◌-◌, ◌∷◌, ◌++◌, [], OnOk, IfOk, IsErrOf, length};
+ghost use Rattle.rib_store.specs.Plan.{IsWrongModule};
+ghost use Rattle.rib_store.specs.declared.plan.TheConstants.{PLAN_MAX};
+ghost use Rattle.route_lang.specs.Asked.{HasOwnModule};
+ghost use Rattle.route_lang.specs.Script.{script_of, GivesScript, TakesLine, RefusesLine, HasAtMost, plans_behind, entries_of, shared_command, is_quiet, command_line, no_plans};
 
-use crate::asked::{Asked, read_line};
+use crate::asked::{Asked, Shared};
 use crate::fault::{LineFault, Reason, ScriptError};
 use crate::line::{Line, Lines};
+use crate::read_line::read_line;
 use crate::text::next_line;
-use prefix_width::{Path, Prefix};
-use rib_store::{ADDS_MAX, Command, Plan, PushError};
+use rib_store::{Command, Plan, PushError};
 use std::alloc::Global;
 use std::sync::Arc;
 
@@ -29,13 +30,14 @@ pub struct Script {
     pub lines: Lines,
 }
 
-/// Law: each command of a script that is read adds a new route, and its lines are in step with
-/// the plan.
-pub fn law_adds_are_new()
-    ensures { AddsAreNew }
-{}
+/// The plans of both families while a script is read.
+#[derive(Drop)]
+struct Plans {
+    inet: Plan<32>,
+    inet6: Plan<128>,
+}
 
-/// The script that bytes are, or the first line that is refused.
+/// The script that bytes are, or the first line that is refused and the first reason against it.
 pub fn read_script(alloc: Global, bytes: &[u8]) -> Result<Script, ScriptError>
     ensures { GivesScript result (script_of bytes.now) }
 {
@@ -45,17 +47,20 @@ pub fn read_script(alloc: Global, bytes: &[u8]) -> Result<Script, ScriptError>
             reason: Reason::TooLarge,
         }));
     }
-    let mut plan = Plan::new(alloc);
+    let mut plans = Plans {
+        inet: Plan::new(alloc),
+        inet6: Plan::new(alloc),
+    };
     let mut lines = Vec::new(alloc);
     let mut rest = bytes;
     let mut number = 0;
     'lines: while let Some((line, after)) = next_line(rest) {
         number += 1;
-        take_line(&mut plan, &mut lines, number, line)?;
+        take_line(&mut plans, &mut lines, number, line)?;
         rest = after;
     }
-    let inet = Arc::new(alloc, plan)?;
-    let inet6 = Arc::new(alloc, Plan::new(alloc))?;
+    let inet = Arc::new(alloc, plans.inet)?;
+    let inet6 = Arc::new(alloc, plans.inet6)?;
     Ok(Script {
         inet,
         inet6,
@@ -65,114 +70,125 @@ pub fn read_script(alloc: Global, bytes: &[u8]) -> Result<Script, ScriptError>
 
 /// Takes in the line of a number.
 fn take_line(
-    plan: &mut Plan<32>,
+    plans: &mut Plans,
     lines: &mut Vec<Line>,
     number: u32,
     line: &[u8],
 ) -> Result<(), ScriptError>
-    ensures taken { OnOk result (TakesLine number line.now plan.old lines.old.items plan.new lines.new.items) }
-    ensures fault { (fault : _) → IsErrOf result (ScriptError.Fault fault) → RefusesLine number line.now plan.old fault }
+    requires first { 1 ≤ number }
+    requires room { HasAtMost (number - 1) plans.old }
+    ensures taken { OnOk result (TakesLine number line.now plans.old lines.old.items plans.new lines.new.items) }
+    ensures fault { (fault : _) → IsErrOf result (ScriptError.Fault fault) → RefusesLine number line.now plans.old fault }
     ensures within { OnOk result (number ≤ LINES_MAX) }
+    ensures room { OnOk result (HasAtMost number plans.new) }
 {
-    if number > LINES_MAX {
-        return Err(not_built(number));
+    match read_line(number, line) {
+        Ok(asked) => take_asked(plans, lines, number, asked),
+        Err(reason) => Err(ScriptError::Fault(LineFault {
+            line: number,
+            reason,
+        })),
     }
-    let Some(asked) = read_line(line) else {
-        return Err(not_built(number));
-    };
-    take_asked(plan, lines, number, asked)
 }
 
 /// Takes in what the line of a number asks for.
 fn take_asked(
-    plan: &mut Plan<32>,
+    plans: &mut Plans,
     lines: &mut Vec<Line>,
     number: u32,
     asked: Asked,
 ) -> Result<(), ScriptError>
-    ensures taken { OnOk result (TakesAsked number asked plan.old lines.old.items plan.new lines.new.items) }
-    ensures fault { (fault : _) → IsErrOf result (ScriptError.Fault fault) → RefusesAsked number asked plan.old fault }
+    requires module { HasOwnModule asked }
+    requires room { (length plans.old.inet < PLAN_MAX) × (length plans.old.inet6 < PLAN_MAX) }
+    ensures plans { OnOk result (plans.new ≡ plans_behind plans.old asked) }
+    ensures lines { OnOk result (lines.new.items ≡ lines.old.items ++ entries_of number plans.old asked) }
+    ensures err { (fault : _) → ¬ (IsErrOf result (ScriptError.Fault fault)) }
 {
     match asked {
-        Asked::Nothing => Ok(()),
-        Asked::Add { prefix, path } => take_add(plan, lines, number, prefix, path),
-        Asked::Get { addr } => {
-            let at = plan.len();
+        Asked::Nothing => {}
+        Asked::Inet(command) => {
+            let at = push(&mut plans.inet, command)?;
+            let line = command_line(is_quiet(&command), number, Some(at), None);
+            lines.push(line)?;
+        }
+        Asked::Inet6(command) => {
+            let at = push(&mut plans.inet6, command)?;
+            let line = command_line(is_quiet(&command), number, None, Some(at));
+            lines.push(line)?;
+        }
+        Asked::Both(shared) => {
+            let command = shared_command::<32>(shared);
+            let inet = push(&mut plans.inet, command)?;
+            let inet6 = push(&mut plans.inet6, shared_command(shared))?;
+            let line = command_line(is_quiet(&command), number, Some(inet), Some(inet6));
+            lines.push(line)?;
+        }
+        Asked::Get4 { addr, flow } => {
+            let at = plans.inet.len();
             lines.push(Line::Get4 {
                 line: number,
                 addr,
-                flow: 0,
+                flow,
                 at,
             })?;
-            Ok(())
+        }
+        Asked::Get6 { addr, flow } => {
+            let at = plans.inet6.len();
+            lines.push(Line::Get6 {
+                line: number,
+                addr,
+                flow,
+                at,
+            })?;
         }
     }
-}
-
-fn not_built(line: u32) -> ScriptError
-    ensures { result ≡ ScriptError.Fault (record { line = line; reason = NotBuilt }) }
-{
-    ScriptError::Fault(LineFault {
-        line,
-        reason: Reason::NotBuilt,
-    })
-}
-
-/// Takes in an `add`.
-fn take_add(
-    plan: &mut Plan<32>,
-    lines: &mut Vec<Line>,
-    number: u32,
-    prefix: Prefix<32>,
-    path: Path<32>,
-) -> Result<(), ScriptError>
-    ensures taken { OnOk result (TakesAdd number prefix path plan.old lines.old.items plan.new lines.new.items) }
-    ensures fault { (fault : _) → IsErrOf result (ScriptError.Fault fault) → (may_add plan.old prefix ≡ false) × (fault ≡ record { line = number; reason = NotBuilt }) }
-{
-    if !may_add(plan, &prefix) {
-        return Err(not_built(number));
-    }
-    let at = plan.len();
-    match plan.push(Command::Add { prefix, path }) {
-        Ok(()) => {}
-        Err(PushError::OutOfMemory) => return Err(ScriptError::OutOfMemory),
-        Err(PushError::PlanFull) => unreachable!(),
-    }
-    lines.push(Line::Change {
-        line: number,
-        inet: Some(at),
-        inet6: None,
-    })?;
     Ok(())
 }
 
-/// Whether a prefix is new, and not one too many.
-fn may_add(plan: &Plan<32>, prefix: &Prefix<32>) -> bool
-    ensures { result ≡ may_add plan.now prefix.now }
+/// Puts a command behind a plan, and gives its position.
+fn push<const W: u32>(plan: &mut Plan<W>, command: Command<W>) -> Result<u32, ScriptError>
+    requires module { ¬ (IsWrongModule command) }
+    requires room { length plan.old < PLAN_MAX }
+    ensures plan { OnOk result (plan.new ≡ plan.old ++ command.entry ∷ []) }
+    ensures at { IfOk result (λ at. at ≡ length plan.old) }
+    ensures err { (fault : _) → ¬ (IsErrOf result (ScriptError.Fault fault)) }
 {
-    plan.len() < ADDS_MAX && !has_prefix(plan, prefix)
-}
-
-/// Whether a command of the plan adds a route of the prefix.
-fn has_prefix(plan: &Plan<32>, prefix: &Prefix<32>) -> bool
-    ensures { result ≡ list_any (adds prefix.now) plan.now }
-{
-    for pos in 0..plan.len() {
-        if adds(plan.command(pos), prefix) {
-            return true;
-        }
+    let at = plan.len();
+    match plan.push(command) {
+        Ok(()) => Ok(at),
+        Err(PushError::OutOfMemory) => Err(ScriptError::OutOfMemory),
+        Err(PushError::PlanFull | PushError::WrongModule) => unreachable!(),
     }
-    false
 }
 
-/// Whether a command adds a route of the prefix.
-fn adds(command: &Command<32>, prefix: &Prefix<32>) -> bool
-    ensures { result ≡ adds prefix.now command.now }
+/// The command of a family that both families get.
+fn shared_command<const W: u32>(shared: Shared) -> Command<W>
+    ensures { result ≡ shared_command shared }
+{
+    match shared {
+        Shared::Flush => Command::Flush,
+        Shared::Tick { ms } => Command::Tick { ms },
+        Shared::Sync => Command::Sync,
+    }
+}
+
+/// Whether a command asks nothing of the table.
+fn is_quiet<const W: u32>(command: &Command<W>) -> bool
+    ensures { result ≡ is_quiet command.now }
 {
     match command {
-        Command::Add {
-            prefix: other,
-            path: _,
-        } => *prefix == *other,
+        Command::Tick { .. } | Command::Sync | Command::Algo { .. } => true,
+        _ => false,
+    }
+}
+
+/// The line of a command that stands at these positions of the plans.
+fn command_line(quiet: bool, line: u32, inet: Option<u32>, inet6: Option<u32>) -> Line
+    ensures { result ≡ command_line quiet line inet inet6 }
+{
+    if quiet {
+        Line::Quiet { line, inet, inet6 }
+    } else {
+        Line::Change { line, inet, inet6 }
     }
 }

@@ -1,136 +1,336 @@
-use crate::{Line, Reason, ScriptError, read_script};
-use std::alloc::Global;
+use crate::asked::{Asked, Shared};
+use crate::read_line::read_line;
+use crate::{LINE_MAX, Line, LineFault, Reason, ScriptError, read_script};
+use prefix_width::{Addr, Kind, Nexthop, Path, Prefix, Setting};
+use rib_store::Command;
 use std::test::Fail;
 
-/// How many commands and lines a script has, or its first line that is refused.
-fn read(alloc: Global, text: &[u8]) -> Result<Result<(u32, usize), u32>, Fail> {
-    match read_script(alloc, text) {
-        Ok(script) => Ok(Ok((script.inet.len(), script.lines.len()))),
-        Err(ScriptError::Fault(fault)) => Ok(Err(fault.line)),
-        Err(ScriptError::OutOfMemory) => Err(ScriptError::OutOfMemory.into()),
+// One line each, with the first reason against it.
+const FAULTS: [(&[u8], Reason); 84] = [
+    (b"\x01# comment", Reason::BadByte),
+    (b"add default 192.0.2.1\x7f", Reason::BadByte),
+    (b"del\xc3 10.0.0.1", Reason::BadByte),
+    (b"\x00", Reason::BadByte),
+    (b"del 10.0.0.0/8", Reason::UnknownCommand),
+    (b"GET 10.0.0.1", Reason::UnknownCommand),
+    (b"-n add default 192.0.2.1", Reason::UnknownCommand),
+    (b"route route add default 192.0.2.1", Reason::UnknownCommand),
+    (b"route -n -v flush", Reason::UnknownCommand),
+    (b"x -foo", Reason::UnknownCommand),
+    (b"route", Reason::MissingWord),
+    (b"route -n -q", Reason::MissingWord),
+    (b"add", Reason::MissingWord),
+    (b"get -inet6", Reason::MissingWord),
+    (b"tick", Reason::MissingWord),
+    (b"algo", Reason::MissingWord),
+    (b"delete", Reason::MissingWord),
+    (b"add default -if", Reason::MissingWord),
+    (b"get 10.0.0.1 flow", Reason::MissingWord),
+    (b"add -weight 2 -mtu", Reason::MissingWord),
+    (b"add default 192.0.2.1 -foo", Reason::UnknownOption),
+    (b"add default 192.0.2.1 -", Reason::UnknownOption),
+    (b"delete default -mtu 1500", Reason::UnknownOption),
+    (b"get 10.0.0.1 -net", Reason::UnknownOption),
+    (b"get -flow 1 10.0.0.1", Reason::UnknownOption),
+    (b"flush -net", Reason::UnknownOption),
+    (b"tick -inet 5", Reason::UnknownOption),
+    (b"sync -inet", Reason::UnknownOption),
+    (b"algo -host auto", Reason::UnknownOption),
+    (b"add -inet -inet6 default ::1", Reason::Repeated),
+    (b"add -inet default 192.0.2.1 -inet", Reason::Repeated),
+    (b"add 10.0.0.0/8 -net -host 192.0.2.1", Reason::Repeated),
+    (b"add default -blackhole -reject", Reason::Repeated),
+    (b"add default -if 1 -if 2", Reason::Repeated),
+    (b"add default 192.0.2.1 -mtu 1500 -mtu", Reason::Repeated),
+    (
+        b"add default 192.0.2.1 -weight 1 -weight 0",
+        Reason::Repeated,
+    ),
+    (b"get flow 1 flow 2 10.0.0.1", Reason::Repeated),
+    (b"add default -if 0", Reason::BadNumber),
+    (b"add default -if 65536", Reason::BadNumber),
+    (b"add default -if -net", Reason::BadNumber),
+    (b"add default -if 07", Reason::BadNumber),
+    (b"add default 192.0.2.1 -mtu 0", Reason::BadNumber),
+    (b"add default 192.0.2.1 -mtu 4294967296", Reason::BadNumber),
+    (b"add default 192.0.2.1 -weight 0", Reason::BadNumber),
+    (b"add default 192.0.2.1 -weight 16777216", Reason::BadNumber),
+    (b"add default -blackhole -weight 0", Reason::BadNumber),
+    (b"add x 1.2.3.4 -if 0", Reason::BadNumber),
+    (b"get 10.0.0.1 flow 4294967296", Reason::BadNumber),
+    (b"get 10.0.0.1 flow -1", Reason::BadNumber),
+    (b"tick 4294967296", Reason::BadNumber),
+    (b"tick 010", Reason::BadNumber),
+    (b"tick +5", Reason::BadNumber),
+    (b"add default 192.0.2.1 192.0.2.2", Reason::ExtraWord),
+    (b"add default 192.0.2.1 flow 7", Reason::ExtraWord),
+    (b"get 10.0.0.1 10.0.0.2 -foo", Reason::ExtraWord),
+    (b"flush all", Reason::ExtraWord),
+    (b"sync now", Reason::ExtraWord),
+    (b"tick x y", Reason::ExtraWord),
+    (b"algo auto scan", Reason::ExtraWord),
+    (b"delete default 192.0.2.1 192.0.2.1", Reason::ExtraWord),
+    (b"add x 192.0.2.1", Reason::BadAddress),
+    (b"add 10.0.0.0/33 192.0.2.1", Reason::BadAddress),
+    (b"add 10.0.0.0/08 192.0.2.1", Reason::BadAddress),
+    (b"add ::/0 192.0.2.1", Reason::BadAddress),
+    (b"add -inet6 10.0.0.0/8 2001:db8::1", Reason::BadAddress),
+    (b"add default 192.0.2.256", Reason::BadAddress),
+    (b"add default x -blackhole", Reason::BadAddress),
+    (b"delete default x", Reason::BadAddress),
+    (b"get default", Reason::BadAddress),
+    (b"get 10.0.0.0/8", Reason::BadAddress),
+    (b"get -inet6 10.0.0.1", Reason::BadAddress),
+    (b"get -inet6 fe80::1%em0", Reason::BadAddress),
+    (b"get -inet6 1.2.3.4::", Reason::BadAddress),
+    (b"add -net 10.0.0.1 x", Reason::BadLength),
+    (b"add -host 10.0.0.0/8 192.0.2.1", Reason::BadLength),
+    (b"add -host default 192.0.2.1", Reason::BadLength),
+    (b"add -inet6 -host 2001:db8::/127 ::1", Reason::BadLength),
+    (b"delete 10.0.0.1 -net", Reason::BadLength),
+    (b"add default", Reason::NoTarget),
+    (b"change default -mtu 1500", Reason::NoTarget),
+    (b"add default -weight 2", Reason::NoTarget),
+    (b"algo fast", Reason::NoModule),
+    (b"algo dxr -inet6", Reason::NoModule),
+    (b"algo AUTO", Reason::NoModule),
+];
+
+#[test]
+fn the_first_reason_is_told(rt: HostRuntime) {
+    for (text, reason) in FAULTS {
+        assert_eq!(rt; read_line(1, text), Err(reason), "of {text:?}");
     }
 }
 
+fn prefix(base: u128, len: u8) -> Option<Prefix<32>> {
+    Prefix::masked(Addr::new(base)?, len)
+}
+
+fn add(base: u128, len: u8, nexthop: Option<Nexthop<32>>, weight: u32) -> Option<Asked> {
+    let prefix = prefix(base, len)?;
+    let path = Path::new(nexthop?, weight)?;
+    Some(Asked::Inet(Command::Add { prefix, path }))
+}
+
+fn change(base: u128, len: u8, nexthop: Nexthop<32>) -> Option<Asked> {
+    let prefix = prefix(base, len)?;
+    let path = Path::new(nexthop, 1)?;
+    Some(Asked::Inet(Command::Change { prefix, path }))
+}
+
+fn delete(base: u128, len: u8, gateway: Option<Addr<32>>) -> Option<Asked> {
+    let prefix = prefix(base, len)?;
+    Some(Asked::Inet(Command::Delete { prefix, gateway }))
+}
+
+fn get(value: u128, flow: u32) -> Option<Asked> {
+    let addr = Addr::new(value)?;
+    Some(Asked::Get4 { addr, flow })
+}
+
+fn get6(value: u128, flow: u32) -> Option<Asked> {
+    let addr = Addr::new(value)?;
+    Some(Asked::Get6 { addr, flow })
+}
+
+fn delete6(base: u128, len: u8, gateway: u128) -> Option<Asked> {
+    let prefix = Prefix::masked(Addr::new(base)?, len)?;
+    let gateway = Some(Addr::new(gateway)?);
+    Some(Asked::Inet6(Command::Delete { prefix, gateway }))
+}
+
+fn via(gateway: u128, iface: u16, mtu: u32) -> Option<Nexthop<32>> {
+    Some(Nexthop::via(Addr::new(gateway)?, iface, mtu))
+}
+
+fn algo(setting: Setting) -> Option<Asked> {
+    Some(Asked::Inet(Command::Algo { setting }))
+}
+
 #[test]
-fn lines_are_taken_or_refused(rt: HostRuntime) -> Result<(), Fail> {
-    for (text, want) in [
-        (b"".as_slice(), Ok((0, 0))),
-        (b"\n\n", Ok((0, 0))),
-        (b"# add 1 2 3\n \t#\x01\xff\n", Ok((0, 0))),
-        (b"add default 192.0.2.1", Ok((1, 1))),
-        (b"\tadd  10.0.0.1 \r192.0.2.1\r\n", Ok((1, 1))),
+fn a_line_is_read_whole(rt: HostRuntime) {
+    let gateway = 0xc000_0201;
+    for (text, asked) in [
+        (b"".as_slice(), Some(Asked::Nothing)),
+        (b" \t\r", Some(Asked::Nothing)),
+        (b" \t# \x01\xff", Some(Asked::Nothing)),
+        (b"add default 192.0.2.1", add(0, 0, via(gateway, 0, 0), 1)),
         (
-            b"get 0.0.0.0\nadd 10.0.0.0/8 1.2.3.4\nget 255.255.255.255",
-            Ok((1, 3)),
+            b"route add 10.1.2.3/8 192.0.2.1",
+            add(0x0a00_0000, 8, via(gateway, 0, 0), 1),
         ),
-        // The masked prefix counts, so the second line adds it again.
-        (b"add 10.1.2.3/8 1.2.3.4\nadd 10.0.0.0/8 1.2.3.5", Err(2)),
         (
-            b"add 10.0.0.0/8 1.2.3.4\nadd 10.0.0.0/9 1.2.3.4",
-            Ok((2, 2)),
+            b"\troute -n -q -n  add 10.0.0.1 \r192.0.2.1\r",
+            add(0x0a00_0001, 32, via(gateway, 0, 0), 1),
         ),
-        (b"\x01# comment", Err(1)),
-        (b"route add default 192.0.2.1", Err(1)),
-        (b"add default", Err(1)),
-        (b"add default 192.0.2.1 192.0.2.2", Err(1)),
-        (b"add 10.0.0.0/33 192.0.2.1", Err(1)),
-        (b"add 10.0.0.0/08 192.0.2.1", Err(1)),
-        (b"add ::/0 192.0.2.1", Err(1)),
-        (b"add -net 10.0.0.0/8 192.0.2.1", Err(1)),
-        (b"get", Err(1)),
-        (b"get 10.0.0.0/8", Err(1)),
-        (b"get default", Err(1)),
-        (b"get 010.0.0.1", Err(1)),
-        (b"get 10.0.0.256", Err(1)),
-        (b"get 10.0.0.1 flow 0", Err(1)),
-        (b"get 10.0.0.1\nflush\nget 10.0.0.1", Err(2)),
-        (b"GET 10.0.0.1", Err(1)),
+        (
+            b"add -weight 16777215 default -mtu 4294967295 192.0.2.1 -if 65535",
+            add(0, 0, via(gateway, 65_535, 4_294_967_295), 16_777_215),
+        ),
+        (b"add -if 3 default", add(0, 0, Nexthop::direct(3, 0), 1)),
+        (
+            b"add default -mtu 1500 -if 3 -weight 7",
+            add(0, 0, Nexthop::direct(3, 1500), 7),
+        ),
+        (
+            b"change default -blackhole",
+            change(0, 0, Nexthop::blackhole()),
+        ),
+        (
+            b"change default 192.0.2.9 -reject -weight 5 -if 2 -mtu 9",
+            change(0, 0, Nexthop::reject()),
+        ),
+        (
+            b"add -net default 192.0.2.1",
+            add(0, 0, via(gateway, 0, 0), 1),
+        ),
+        (
+            b"add -net 10.0.0.1/32 192.0.2.1",
+            add(0x0a00_0001, 32, via(gateway, 0, 0), 1),
+        ),
+        (
+            b"add -host 10.0.0.1 192.0.2.1",
+            add(0x0a00_0001, 32, via(gateway, 0, 0), 1),
+        ),
+        (
+            b"add -host 10.0.0.1/32 192.0.2.1 -inet",
+            add(0x0a00_0001, 32, via(gateway, 0, 0), 1),
+        ),
+        (b"delete 10.0.0.0/8", delete(0x0a00_0000, 8, None)),
+        (
+            b"delete 10.0.0.0/8 192.0.2.1",
+            delete(0x0a00_0000, 8, Addr::new(gateway)),
+        ),
+        (b"delete -inet6 default ::1", delete6(0, 0, 1)),
+        (b"get 255.255.255.255", get(0xffff_ffff, 0)),
+        (b"get flow 4294967295 0.0.0.0", get(0, 4_294_967_295)),
+        (b"get 0.0.0.0 flow 0", get(0, 0)),
+        (b"get -inet6 ::ffff flow 7", get6(0xffff, 7)),
+        (b"flush", Some(Asked::Both(Shared::Flush))),
+        (b"flush -inet", Some(Asked::Inet(Command::Flush))),
+        (b"flush -inet6", Some(Asked::Inet6(Command::Flush))),
+        (b"tick 0", Some(Asked::Both(Shared::Tick { ms: 0 }))),
+        (
+            b"tick 4294967295",
+            Some(Asked::Both(Shared::Tick { ms: 4_294_967_295 })),
+        ),
+        (b"sync", Some(Asked::Both(Shared::Sync))),
+        (b"algo auto", algo(Setting::Auto)),
+        (b"algo scan", algo(Setting::Fixed(Kind::Scan))),
+        (b"-inet algo", None),
+        (b"algo -inet range", algo(Setting::Fixed(Kind::Range))),
+        (b"algo radix", algo(Setting::Fixed(Kind::Radix))),
+        (b"algo dxr", algo(Setting::Fixed(Kind::Dxr))),
+        (
+            b"algo auto -inet6",
+            Some(Asked::Inet6(Command::Algo {
+                setting: Setting::Auto,
+            })),
+        ),
     ] {
-        assert_eq!(rt; read(rt.alloc(), text)?, want, "of {text:?}");
+        assert_eq!(rt; read_line(1, text).ok(), asked, "of {text:?}");
     }
-    Ok(())
-}
-
-#[test]
-fn the_26th_add_is_refused(rt: HostRuntime) -> Result<(), Fail> {
-    let alloc = rt.alloc();
-    let mut text = String::new(alloc);
-    for k in 0..26 {
-        text.push_str(format!(in alloc; "add 10.0.0.{k} 192.0.2.1\n")?.as_str())?;
-        let want = if k < 25 {
-            Ok((k + 1, k as usize + 1))
-        } else {
-            Err(26)
-        };
-        assert_eq!(rt; read(alloc, text.as_bytes())?, want);
-    }
-    Ok(())
 }
 
 #[test]
 fn a_line_has_at_most_255_bytes(rt: HostRuntime) -> Result<(), Fail> {
-    let alloc = rt.alloc();
-    for (len, want) in [(255, Ok((0, 0))), (256, Err(1))] {
-        let comment = vec![in alloc; b'#'; len]?;
-        assert_eq!(rt; read(alloc, &comment)?, want);
-        let blanks = vec![in alloc; b' '; len]?;
-        assert_eq!(rt; read(alloc, &blanks)?, want);
+    let mut text = Vec::new(rt.alloc());
+    text.extend_from_slice(b"#")?;
+    for _ in 1..LINE_MAX {
+        text.push(b' ')?;
+    }
+    assert_eq!(rt; read_line(1_048_576, &text), Ok(Asked::Nothing));
+    text.push(b' ')?;
+    assert_eq!(rt; read_line(1_048_576, &text), Err(Reason::LineTooLong));
+    assert_eq!(rt; read_line(1_048_577, &text), Err(Reason::TooManyLines));
+    Ok(())
+}
+
+// Commands of one family, of the other and of both, with gets between them.
+#[test]
+fn lines_have_their_positions(rt: HostRuntime) -> Result<(), Fail> {
+    let text =
+        b"# both families\nadd default 192.0.2.1\nget 10.0.0.1 flow 5\n\nflush -inet6\ntick 7\nget -inet6 ::1\nflush\nalgo scan\nget 10.0.0.2";
+    let script = match read_script(rt.alloc(), text) {
+        Ok(script) => script,
+        Err(error) => return Err(error.into()),
+    };
+    assert_eq!(rt; (script.inet.len(), script.inet6.len()), (4, 3));
+    let (Some(first), Some(second), Some(third)) = (
+        Addr::new(0x0a00_0001),
+        Addr::new(1),
+        Addr::new(0x0a00_0002),
+    ) else {
+        assert!(rt; false, "no address");
+        return Ok(());
+    };
+    let want = [
+        Line::Change {
+            line: 2,
+            inet: Some(0),
+            inet6: None,
+        },
+        Line::Get4 {
+            line: 3,
+            addr: first,
+            flow: 5,
+            at: 1,
+        },
+        Line::Change {
+            line: 5,
+            inet: None,
+            inet6: Some(0),
+        },
+        Line::Quiet {
+            line: 6,
+            inet: Some(1),
+            inet6: Some(1),
+        },
+        Line::Get6 {
+            line: 7,
+            addr: second,
+            flow: 0,
+            at: 2,
+        },
+        Line::Change {
+            line: 8,
+            inet: Some(2),
+            inet6: Some(2),
+        },
+        Line::Quiet {
+            line: 9,
+            inet: Some(3),
+            inet6: None,
+        },
+        Line::Get4 {
+            line: 10,
+            addr: third,
+            flow: 0,
+            at: 4,
+        },
+    ];
+    assert_eq!(rt; script.lines.len(), want.len());
+    for (i, line) in want.iter().enumerate() {
+        if i < script.lines.len() {
+            assert_eq!(rt; script.lines.get(i), line);
+        }
     }
     Ok(())
 }
 
 #[test]
-fn a_script_has_at_most_1048576_lines(rt: HostRuntime) -> Result<(), Fail> {
-    let alloc = rt.alloc();
-    for (len, want) in [(1_048_576, Ok((0, 0))), (1_048_577, Err(1_048_577))] {
-        let feeds = vec![in alloc; b'\n'; len]?;
-        assert_eq!(rt; read(alloc, &feeds)?, want);
+fn the_first_faulty_line_is_told(rt: HostRuntime) -> Result<(), Fail> {
+    for (text, line, reason) in [
+        (b"flush\nadd\nx\n".as_slice(), 2, Reason::MissingWord),
+        (b"\n\n# x\nx\nadd", 4, Reason::UnknownCommand),
+        (b"sync\r\n\x01", 2, Reason::BadByte),
+    ] {
+        match read_script(rt.alloc(), text) {
+            Ok(_) => assert!(rt; false, "no fault"),
+            Err(ScriptError::OutOfMemory) => assert!(rt; false, "no memory"),
+            Err(ScriptError::Fault(fault)) => { assert_eq!(rt; fault, LineFault { line, reason }) }
+        }
     }
     Ok(())
-}
-
-#[test]
-fn a_script_keeps_its_lines_with_their_places(rt: HostRuntime) -> Result<(), Fail> {
-    let text = b"get 10.0.0.9\n\nadd 10.0.0.0/8 192.0.2.1\nget 10.0.0.9\n";
-    let script = read_script(rt.alloc(), text)?;
-    assert_eq!(rt; script.lines.len(), 3);
-    assert!(rt;
-        matches!(
-            *script.lines.get(0),
-            Line::Get4 {
-                line: 1,
-                at: 0,
-                flow: 0,
-                ..
-            }
-        )
-    );
-    assert!(rt;
-        matches!(
-            *script.lines.get(1),
-            Line::Change {
-                line: 3,
-                inet: Some(0),
-                inet6: None
-            }
-        )
-    );
-    assert!(rt;
-        matches!(
-            *script.lines.get(2),
-            Line::Get4 {
-                line: 4,
-                at: 1,
-                flow: 0,
-                ..
-            }
-        )
-    );
-    Ok(())
-}
-
-#[test]
-fn each_reason_has_its_text(rt: HostRuntime) {
-    assert_eq!(rt; Reason::TooLarge.text(), "input too large");
-    assert_eq!(rt; Reason::NotBuilt.text(), "not built");
 }

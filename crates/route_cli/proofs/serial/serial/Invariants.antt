@@ -1,6 +1,6 @@
 -- The lines before the place are taken.
 use Rattle.std.proofs.Common.{drop}
-use Rattle.route_lang.specs.Script.{reading_of}
+use Rattle.route_lang.specs.AddsScript.{reading_of}
 use Rattle.route_cli.specs.Replay.{IsUnderWay}
 use Rattle.route_cli.proofs.serial.serial.Given as goal
 

@@ -1,12 +1,11 @@
 -- Completeness follows from the other clauses, by cases on the status.
-use Rattle.std.proofs.Common.{◌≡◌, ◌≢◌, ◌⊎◌, ℕ, ◌≤◌, ◌++◌, List, [], Option, Some, None, Result, Ok, Err, length, length-append, append-nil, refl, ap, ◌∙◌, inl, inr, arith}
+use Rattle.std.proofs.Common.{◌≡◌, ◌≢◌, ℕ, ◌≤◌, ◌++◌, Bool, true, false, List, Option, Some, None, Ok, length, length-append, append-nil, refl, ap, ◌∙◌, inl, inr, arith}
 use Rattle.outside_io.specs.Faults.{Rose}
 use Rattle.outside_io.specs.Whole.{ReadsAll, ReadsPast}
 use Rattle.route_lang.specs.declared.fault.Reason.{Reason}
-use Rattle.route_lang.specs.declared.fault.Reason.TheVariants.{TooLarge, NotBuilt}
 use Rattle.route_lang.specs.declared.script.TheConstants.{INPUT_MAX}
 use Rattle.route_cli.specs.Result.{result_of}
-use Rattle.route_cli.specs.Cause.{Refuses, IsComplete}
+use Rattle.route_cli.specs.Cause.{Refuses, RefusedBy, is_too_large, IsComplete}
 use Rattle.route_cli.specs.declared.job.Job.{Job}
 use Rattle.route_cli.specs.declared.status.Status.{Status}
 use Rattle.route_cli.specs.declared.status.Status.TheVariants as status
@@ -22,11 +21,14 @@ not_past bytes None few h = h.2
 not_past bytes (Some ys) few h = omega (arith, ap length h.2, length-append h.0 ys, h.1)
 
 not_refused : (job : Job) (bytes text : List ℕ) (rest : Option (List ℕ)) (line : ℕ) (reason : Reason) → length bytes ≤ INPUT_MAX → result_of job bytes ≡ Ok text → Refuses job (Some bytes) rest line reason → ⊥
-not_refused job bytes text rest line TooLarge few result h = not_past bytes rest few h.1
-not_refused job bytes text rest line NotBuilt few result h =
-    let same = all_read bytes h.bytes rest h.read.whole in
-    let other = ap (result_of job) same ∙ h.result in
-    cc
+not_refused job bytes text rest line reason few result h = by_test (is_too_large reason) h
+  where
+    by_test : (large : Bool) → RefusedBy large job (Some bytes) rest line reason → ⊥
+    by_test true h = not_past bytes rest few h.1
+    by_test false h =
+        let same = all_read bytes h.bytes rest h.read.whole in
+        let other = ap (result_of job) same ∙ h.result in
+        cc
 
 complete : (job : Job) (left rest : Option (List ℕ)) (a b c d : ℕ) (result : Status)
     → (result ≢ status.Usage) → (result ≡ status.ReadFault → Rose a b) → (result ≡ status.WriteFault → Rose c d)

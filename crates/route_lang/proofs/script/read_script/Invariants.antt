@@ -1,14 +1,15 @@
 -- The lines so far, before those of the rest, are the script's.
-use Rattle.std.proofs.Common.{◌≡◌, ◌≤◌, ◌+◌, [], length}
+use Rattle.std.proofs.Common.{◌≡◌, ◌≤◌, ◌+◌, length}
 use Rattle.route_lang.specs.Text.{lines_of}
-use Rattle.route_lang.specs.Script.{lines_from, with_front}
+use Rattle.route_lang.specs.Script.{lines_from, with_front, no_plans, HasAtMost}
 use Rattle.route_lang.specs.declared.script.TheConstants.{LINES_MAX}
 use Rattle.route_lang.proofs.script.read_script.Given as goal
 
 abbrev pub invariant-lines : goal.invariant-lines
 invariant-lines l = record {
   few : l.number ≤ LINES_MAX;
-  script : with_front l.lines.items (lines_from (l.number + 1) l.plan (lines_of l.rest)) ≡ lines_from 1 [] (lines_of l.bytes);
+  room : HasAtMost l.number l.plans;
+  script : with_front l.lines.items (lines_from (l.number + 1) l.plans (lines_of l.rest)) ≡ lines_from 1 no_plans (lines_of l.bytes);
 }
 
 abbrev pub decreases-lines : goal.decreases-lines

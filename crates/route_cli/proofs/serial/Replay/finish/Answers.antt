@@ -1,6 +1,6 @@
 -- What is written behind the lines ends the output.
 use Rattle.std.proofs.Common.{◌≡◌, ◌∙◌, ◌++◌, List, ℕ, length, ap}
-use Rattle.route_lang.specs.Script.{reading_of}
+use Rattle.route_lang.specs.AddsScript.{reading_of}
 use Rattle.route_cli.specs.Output.{fib_text}
 use Rattle.route_cli.proofs.ReplayLemmas.{at_last}
 use Rattle.route_cli.proofs.serial.Replay.finish.Goals as goal

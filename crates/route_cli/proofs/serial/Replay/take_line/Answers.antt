@@ -1,17 +1,16 @@
 -- The line at the place is the first of those that are left.
-use Rattle.std.proofs.Common.{◌≡◌, ◌∙◌, ◌+◌, ◌<◌, ◌∷◌, ℕ, List, Option, Some, None, length, drop, ap, sym, subst, arith, lit<}
+use Rattle.std.proofs.Common.{◌≡◌, ◌∙◌, ◌+◌, ◌<◌, ◌∷◌, ℕ, Some, None, length, drop, ap, sym, subst, arith, lit<}
 use Rattle.std.specs.List.{slice_get}
-use Rattle.rib_store.specs.declared.command.Command.{Command}
-use Rattle.route_lang.specs.declared.line.Line.{Line}
-use Rattle.route_lang.specs.declared.line.Line.TheVariants.{Change, Get4}
-use Rattle.route_lang.specs.Script.{Reading, reading_of}
+use Rattle.route_lang.specs.declared.adds_line.AddsLine.{AddsLine}
+use Rattle.route_lang.specs.declared.adds_line.AddsLine.TheVariants.{Change, Get4}
+use Rattle.route_lang.specs.AddsScript.{Reading, reading_of}
 use Rattle.route_cli.specs.Replay.{IsUnderWay}
 use Rattle.route_cli.specs.declared.serial.Replay.{Replay}
 use Rattle.route_cli.proofs.ReplayLemmas.{lines_from_place, next_inside, next_new, on_ok, after_change, after_get}
 use Rattle.route_cli.proofs.serial.Replay.take_line.Goals as goal
 
 -- the replay before a line, which stands first
-at_line : (script : Reading) (i : ℕ) (replay : Replay) (found line : Line) → slice_get script.lines i ≡ Some found → found ≡ line → IsUnderWay script (drop i script.lines) replay → IsUnderWay script (line ∷ drop (i + 1) script.lines) replay
+at_line : (script : Reading) (i : ℕ) (replay : Replay) (found line : AddsLine) → slice_get script.lines i ≡ Some found → found ≡ line → IsUnderWay script (drop i script.lines) replay → IsUnderWay script (line ∷ drop (i + 1) script.lines) replay
 at_line script i replay found line e same h =
     subst (λ rest. IsUnderWay script rest replay) (lines_from_place script.lines i found e ∙ ap (λ l. l ∷ drop (i + 1) script.lines) same) h
 

@@ -1,0 +1,170 @@
+//! A reader, outside and in its epoch.
+ghost use Rattle.std.specs.Prelude.{◌≡◌, ◌<◌, ◌≤◌, [], Some};
+ghost use Rattle.std.specs.Arc.{arc_value};
+ghost use Rattle.epoch_core.specs.declared.view.Role.TheVariants.{Reader};
+ghost use Rattle.epoch_core.specs.Rule.{IsSized};
+ghost use Rattle.epoch_core.specs.Step.{looked_own, announced_own, entered_own, left_own};
+ghost use Rattle.epoch_core.specs.World.{first_own};
+
+use crate::board::{Board, Lawful, Place};
+use crate::laws::BANKS;
+use crate::plays::{Announce, Enter, Leave, Look};
+use std::alloc::Global;
+use std::marker::Model;
+use std::sync::Arc;
+
+/// A reader that is outside: it has no version in hand.
+#[derive(Drop)]
+pub struct ReaderSeat<Q, T: Lawful<Q> + Drop> {
+    pub(crate) board: Arc<Board<Q, T>, Global>,
+    pub(crate) place: Place<Q, T>,
+    pub(crate) index: u8,
+    pub(crate) seen: u64,
+}
+
+impl<Q, T: Lawful<Q> + Drop> Model for ReaderSeat<Q, T> {
+    ghost use Rattle.std.specs.Arc.{arc_value};
+    ghost use Rattle.std.specs.Prelude.{Some};
+    ghost use Rattle.epoch_core.specs.SeatViews.{ReaderView, reader_view, IsOutside};
+
+    ghost Value = { ReaderView Q };
+
+    ghost view = { λ s. reader_view s.place (arc_value s.board).shared.key.key s.index };
+
+    ghost invariant = { λ s. IsOutside s.place (arc_value s.board).shared.table_id (Some (arc_value s.board).shared.key.key) s.index s.seen };
+}
+
+/// A reader in its epoch, with a version and the value that stands there. It has to be spent, by
+/// [`Standing::leave`].
+pub struct Standing<Q, T: Lawful<Q> + Drop> {
+    board: Arc<Board<Q, T>, Global>,
+    place: Place<Q, T>,
+    index: u8,
+    version: u64,
+    value: Arc<T, Global>,
+}
+
+impl<Q, T: Lawful<Q> + Drop> Model for Standing<Q, T> {
+    ghost use Rattle.std.specs.Prelude.{Some};
+    ghost use Rattle.std.specs.Arc.{arc_value};
+    ghost use Rattle.epoch_core.specs.Rule.{at_key};
+    ghost use Rattle.epoch_core.specs.SeatViews.{StandingView, reader_view, IsInEpoch};
+
+    ghost Value = { StandingView Q T };
+
+    ghost view = { λ s. record { seat = reader_view s.place (arc_value s.board).shared.key.key s.index; version = s.version; value = arc_value s.value } };
+
+    ghost invariant = { λ s. IsInEpoch (at_key (λ q v c. T.is_lawful q v (arc_value c))) s.place (arc_value s.board).shared.table_id (Some (arc_value s.board).shared.key.key) s.index s.version s.value };
+}
+
+impl<Q, T: Lawful<Q> + Drop> ReaderSeat<Q, T> {
+    /// The seat of a reader that has done nothing yet.
+    pub(crate) fn seated(
+        board: Arc<Board<Q, T>, Global>,
+        place: Place<Q, T>,
+        index: u8,
+    ) -> ReaderSeat<Q, T>
+        requires table { (place.table_id ≡ (arc_value board).shared.table_id) × IsSized place.table_id }
+        requires number { index < 64 }
+        requires new { place.me ≡ (record { key = Some (arc_value board).shared.key.key; role = Reader index first_own }, []) }
+        ensures { result ≡ record { table = place.table_id; key = (arc_value board).shared.key.key; number = index; own = first_own } }
+    {
+        ReaderSeat {
+            board,
+            place,
+            index,
+            seen: 0,
+        }
+    }
+
+    /// The latest version that it has looked at, entered at or been told of.
+    pub fn seen(&self) -> u64
+        ensures { result ≡ self.now.own.seen }
+    {
+        self.seen
+    }
+
+    /// The version that is published at this step.
+    pub fn look(&mut self) -> u64
+        ensures seat { self.new ≡ record self.old { own = looked_own result self.old.own } }
+        ensures later { self.old.own.seen ≤ result }
+    {
+        let board = &self.board;
+        let found = board.shared.load::<Look>(&mut self.place, 0);
+        self.seen = found;
+        found
+    }
+
+    /// Looks, announces the version that it found, and takes the version that is published then in
+    /// hand. No publish replaces that until the reader leaves.
+    pub fn enter(self) -> Standing<Q, T>
+        ensures seat { (result.seat.table ≡ self.table) × (result.seat.key ≡ self.key) × (result.seat.number ≡ self.number) }
+        ensures steps { result.seat.own ≡ entered_own result.version (announced_own (looked_own result.seat.own.last self.own)) }
+        ensures later { (self.own.seen ≤ result.seat.own.last) × (result.seat.own.last ≤ result.version) }
+        ensures lawful { T.is_lawful result.seat.key result.version result.value }
+    {
+        let Self {
+            board,
+            mut place,
+            index,
+            seen: _,
+        } = self;
+        let shared = &board.shared;
+        let reader = usize::from(index);
+        let found = shared.load::<Look>(&mut place, 0);
+        shared.store::<Announce>(&mut place, 1 + reader, found + 1);
+        let current = shared.load::<Enter<T>>(&mut place, 0);
+        let bank = (current % BANKS) as usize;
+        let value = shared
+            .exchange(&mut place, 64 * bank + reader, None)
+            .unwrap();
+        Standing {
+            board,
+            place,
+            index,
+            version: current,
+            value,
+        }
+    }
+}
+
+impl<Q, T: Lawful<Q> + Drop> Standing<Q, T> {
+    /// The version in hand.
+    pub fn version(&self) -> u64
+        ensures { result ≡ self.now.version }
+    {
+        self.version
+    }
+
+    /// The value in hand.
+    pub fn value(&self) -> &T
+        ensures value { result.now ≡ self.now.value }
+        ensures lawful { T.is_lawful self.now.seat.key self.now.version result.now }
+    {
+        &self.value
+    }
+
+    /// Gives the value back and announces nothing any more.
+    pub fn leave(self) -> ReaderSeat<Q, T>
+        ensures { result ≡ record self.seat { own = left_own self.seat.own } }
+    {
+        let Standing {
+            board,
+            mut place,
+            index,
+            version,
+            value,
+        } = self;
+        let shared = &board.shared;
+        let reader = usize::from(index);
+        let bank = (version % BANKS) as usize;
+        shared.exchange(&mut place, 64 * bank + reader, Some(value));
+        shared.store::<Leave>(&mut place, 1 + reader, 0);
+        ReaderSeat {
+            board,
+            place,
+            index,
+            seen: version,
+        }
+    }
+}

@@ -1,0 +1,128 @@
+//! How the table and its seats are made.
+ghost use Rattle.std.specs.Prelude.{◌≡◌, ◌↔◌, ◌⊎◌, ◌<◌, ◌≤◌, [], length, IfOk, IfErr, OnOk, Some};
+ghost use Rattle.std.specs.Arc.{arc_value};
+ghost use Rattle.epoch_core.specs.declared.starting.StartError.TheVariants.{BadCount};
+ghost use Rattle.epoch_core.specs.Rule.{first_control, IsSized, opened_view};
+ghost use Rattle.epoch_core.specs.SeatViews.{AreFirstSeats};
+ghost use Rattle.epoch_core.specs.Slots.{FirstSlot, FirstSlots};
+
+use crate::OutOfMemory;
+use crate::board::{About, Board, Lawful, Place};
+use crate::control::ControlSeat;
+use crate::plays::Open;
+use crate::reader::ReaderSeat;
+use atomic_table::Table;
+use std::alloc::Global;
+use std::sync::Arc;
+use thiserror::Error;
+
+/// The slot of this number at the start: the first version stands in bank 0.
+fn first_slot<T>(
+    readers: usize,
+    place: usize,
+    first: &Arc<T, Global>,
+) -> Result<Option<Arc<T, Global>>, OutOfMemory>
+    ensures { IfOk result (FirstSlot (λ c. arc_value c ≡ arc_value first.now) readers place) }
+{
+    if place < readers {
+        Ok(Some(Arc::try_clone(first)?))
+    } else {
+        Ok(None)
+    }
+}
+
+/// All slots at the start.
+fn lay<T: Drop>(
+    alloc: Global,
+    readers: usize,
+    first: &Arc<T, Global>,
+) -> Result<Vec<Option<Arc<T, Global>>>, OutOfMemory>
+    ensures { IfOk result (λ v. (length v.items ≡ 256) × FirstSlots (λ c. arc_value c ≡ arc_value first.now) readers 0 v.items) }
+{
+    let mut slots = Vec::with_capacity(alloc, 256)?;
+    for place in 0..256usize {
+        slots.push(first_slot(readers, place, first)?)?;
+    }
+    Ok(slots)
+}
+
+/// The table and its first seat.
+fn open<Q: Drop, T: Lawful<Q> + Drop>(
+    alloc: Global,
+    key: Q,
+    readers: u8,
+    first: &Arc<T, Global>,
+) -> Result<(Arc<Board<Q, T>, Global>, Place<Q, T>), OutOfMemory>
+    requires { (readers ≤ 64) × T.is_lawful key 0 (arc_value first.now) }
+    ensures { IfOk result (λ t. (t.1.table_id ≡ (arc_value t.0).shared.table_id) × IsSized t.1.table_id × ((arc_value t.0).shared.key.key ≡ key) × (t.1.me ≡ (opened_view (Some (arc_value t.0).shared.key.key) readers 0, []))) }
+{
+    let slots = lay(alloc, usize::from(readers), first)?;
+    let words = [0u64; 65];
+    let about = About {
+        key,
+        readers: u64::from(readers),
+    };
+    let made: Result<(Board<Q, T>, Place<Q, T>), _> = Table::new(alloc, &words, slots, &about);
+    let Ok((table, place)) = made else {
+        return Err(OutOfMemory);
+    };
+    let board = Arc::new(alloc, table)?;
+    Ok((board, place))
+}
+
+/// One seat for each reader, made of the control's.
+fn seat_readers<Q, T: Lawful<Q> + Drop>(
+    alloc: Global,
+    board: &Arc<Board<Q, T>, Global>,
+    place: &mut Place<Q, T>,
+    readers: u8,
+) -> Result<Vec<ReaderSeat<Q, T>>, OutOfMemory>
+    requires table { (place.old.table_id ≡ (arc_value board.now).shared.table_id) × IsSized place.old.table_id × (readers ≤ 64) }
+    requires new { place.old.me ≡ (opened_view (Some (arc_value board.now).shared.key.key) readers 0, []) }
+    ensures seat { IfOk result (λ v. (place.new.table_id ≡ place.old.table_id) × (place.new.me ≡ (opened_view (Some (arc_value board.now).shared.key.key) readers readers, []))) }
+    ensures seats { IfOk result (λ v. AreFirstSeats place.old.table_id (arc_value board.now).shared.key.key readers v.items) }
+{
+    let mut seats = Vec::with_capacity(alloc, usize::from(readers))?;
+    for index in 0..readers {
+        let shared = Arc::try_clone(board)?;
+        let seat = shared.shared.split_seat::<Open>(place);
+        seats.push(ReaderSeat::seated(shared, seat, index))?;
+    }
+    Ok(seats)
+}
+
+/// Why no table was made.
+#[derive(Clone, Copy, Debug, PartialEq, Eq, Error)]
+pub enum StartError {
+    /// There are 1 to 64 readers.
+    #[error("the number of readers isn't from 1 to 64")]
+    BadCount,
+    /// No memory.
+    #[error("out of memory")]
+    OutOfMemory,
+}
+
+/// A table at version 0, with the control's seat and one for each reader, in order.
+pub fn start<Q: Drop, T: Lawful<Q> + Drop>(
+    alloc: Global,
+    key: Q,
+    readers: u8,
+    first: &Arc<T, Global>,
+) -> Result<(ControlSeat<Q, T>, Vec<ReaderSeat<Q, T>>), StartError>
+    requires { T.is_lawful key 0 (arc_value first.now) }
+    ensures count { OnOk result ((1 ≤ readers) × (readers ≤ 64)) }
+    ensures bad_count { IfErr result (λ e. (e ≡ BadCount) ↔ ((readers ≡ 0) ⊎ (64 < readers))) }
+    ensures control { IfOk result (λ t. (t.0.key ≡ key) × (t.0.own ≡ record (first_control readers) { opened = readers })) }
+    ensures seats { IfOk result (λ t. AreFirstSeats t.0.table key readers t.1.items) }
+{
+    if readers == 0 || readers > 64 {
+        return Err(StartError::BadCount);
+    }
+    let Ok((board, mut place)) = open(alloc, key, readers, first) else {
+        return Err(StartError::OutOfMemory);
+    };
+    let Ok(seats) = seat_readers(alloc, &board, &mut place, readers) else {
+        return Err(StartError::OutOfMemory);
+    };
+    Ok((ControlSeat::seated(board, place, readers), seats))
+}

@@ -1,0 +1,7 @@
+pub mod BlockLemmas
+pub mod CoverLemmas
+pub mod EditLemmas
+pub mod KeyLemmas
+pub mod MatchLemmas
+pub mod UnderLemmas
+pub mod UndoLemmas

@@ -1,0 +1,3 @@
+pub mod Edit
+pub mod Rows
+pub mod View

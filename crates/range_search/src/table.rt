@@ -1,0 +1,127 @@
+ghost use Rattle.std.specs.Prelude.{◌≡◌, ◌≢◌, ◌-◌, ◌/◌, max, length, Ok, OnOk};
+ghost use Rattle.std.specs.Map.{keys_of};
+ghost use Rattle.module_trait.specs.Rows.{AreBlocks, IsAscending};
+ghost use Rattle.range_search.specs.Range.{IsRangeOf, AreRight, IsDigits, IsRangeVerdict, starts_of};
+
+use crate::OutOfMemory;
+use crate::compare::same_starts;
+use crate::sweep::cells_of;
+use module_trait::{Cells, Edit, Module, RouteView, Steps, Verdict, read_edits};
+use prefix_width::{Addr, Prefix};
+use std::alloc::Global;
+use std::sync::ledger::Ledger;
+
+/// Sorted ranges: one cell for each start, ascending, with the index of the longest row from there
+/// on, 0 for none. A cell is 32 bytes wide, as wide as the type of an address makes it.
+#[derive(Drop)]
+pub struct RangeTable<const W: u32> {
+    cells: Cells<(u128, u16)>,
+}
+
+impl<const W: u32> RangeTable<W> {
+    /// Takes the cells of these rows, where the starts stay.
+    fn take_over(
+        &mut self,
+        alloc: Global,
+        rows: &[(Prefix<W>, u16)],
+    ) -> Result<Verdict, OutOfMemory>
+        requires { IsAscending rows.now }
+        ensures blocks { OnOk result (AreBlocks W rows.now) }
+        ensures starts { result ≡ Ok Verdict.Done → keys_of self.new.cells ≡ starts_of W rows.now }
+        ensures right { result ≡ Ok Verdict.Done → AreRight W rows.now self.new.cells }
+        ensures stay { result ≡ Ok Verdict.Done → keys_of self.old.cells ≡ starts_of W rows.now }
+        ensures moved { result ≡ Ok Verdict.Rebuild → keys_of self.old.cells ≢ starts_of W rows.now }
+        ensures no_batch { result ≢ Ok Verdict.Batch }
+        ensures not_done { result ≢ Ok Verdict.Done → self.new ≡ self.old }
+    {
+        let cells = cells_of(alloc, rows)?;
+        if !same_starts(alloc, &self.cells, cells.as_slice())? {
+            return Ok(Verdict::Rebuild);
+        }
+        self.cells = Cells::new(cells);
+        Ok(Verdict::Done)
+    }
+}
+
+impl<const W: u32> Module<W> for RangeTable<W> {
+    ghost stands = { λ table rows. IsRangeOf W rows table.cells };
+
+    ghost is_bound = { λ rows n. IsDigits n (length (starts_of W rows)) };
+
+    ghost is_verdict = { λ before after verdict. IsRangeVerdict W before after verdict };
+
+    ghost is_batch_verdict = { λ _ before after verdict. IsRangeVerdict W before after verdict };
+
+    ghost preference = { λ routes. max (253 - routes / 4) 1 };
+
+    fn empty(alloc: Global) -> Result<Self, OutOfMemory> {
+        let cells = Vec::from_slice(alloc, &[(0, 0)])?;
+        Ok(RangeTable {
+            cells: Cells::new(cells),
+        })
+    }
+
+    fn load(&mut self, alloc: Global, rows: &[(Prefix<W>, u16)]) -> Result<(), OutOfMemory> {
+        self.cells = Cells::new(cells_of(alloc, rows)?);
+        Ok(())
+    }
+
+    // The index of the last cell so far that begins at or before the address is kept beside the
+    // bisection, which spares a read at its end.
+    fn find<L: Ledger>(&self, addr: &Addr<W>, steps: &mut Steps<L>) -> Option<u16> {
+        let value = addr.value();
+        let mut low = 0;
+        let mut high = self.cells.len();
+        let mut index = 0u16;
+        while low < high {
+            let middle = low + (high - low) / 2;
+            let cell = *self.cells.at(middle, steps);
+            if cell.0 <= value {
+                index = cell.1;
+                low = middle + 1;
+            } else {
+                high = middle;
+            }
+        }
+        if index == 0 { None } else { Some(index) }
+    }
+
+    fn bound(&self) -> u64 {
+        match self.cells.len().checked_ilog2() {
+            Some(log) => u64::from(log) + 1,
+            None => 0,
+        }
+    }
+
+    fn change(
+        &mut self,
+        alloc: Global,
+        edit: &Edit<W>,
+        view: &RouteView<W>,
+    ) -> Result<Verdict, OutOfMemory> {
+        let _after = edit.after();
+        let rows = view.rows(alloc)?;
+        self.take_over(alloc, rows.as_slice())
+    }
+
+    fn change_batch(
+        &mut self,
+        alloc: Global,
+        edits: &[Edit<W>],
+        view: &RouteView<W>,
+    ) -> Result<Verdict, OutOfMemory> {
+        read_edits(edits);
+        let rows = view.rows(alloc)?;
+        self.take_over(alloc, rows.as_slice())
+    }
+
+    fn copy(&self, alloc: Global) -> Result<Self, OutOfMemory> {
+        Ok(RangeTable {
+            cells: self.cells.copy(alloc)?,
+        })
+    }
+
+    fn pref(routes: u32) -> u8 {
+        253u32.saturating_sub(routes / 4).max(1) as u8
+    }
+}

@@ -1,0 +1,15 @@
+-- The lines so far, before those of the rest, are the script's.
+use Rattle.std.proofs.Common.{◌≡◌, ◌≤◌, ◌+◌, [], length}
+use Rattle.route_lang.specs.Text.{lines_of}
+use Rattle.route_lang.specs.AddsScript.{lines_from, with_front}
+use Rattle.route_lang.specs.declared.script.TheConstants.{LINES_MAX}
+use Rattle.route_lang.proofs.adds_script.read_adds.Given as goal
+
+abbrev pub invariant-lines : goal.invariant-lines
+invariant-lines l = record {
+  few : l.number ≤ LINES_MAX;
+  script : with_front l.lines.items (lines_from (l.number + 1) l.plan (lines_of l.rest)) ≡ lines_from 1 [] (lines_of l.bytes);
+}
+
+abbrev pub decreases-lines : goal.decreases-lines
+decreases-lines l = length (lines_of l.rest)

@@ -1,0 +1,61 @@
+ghost use Rattle.std.specs.Prelude.{◌≡◌, ◌<◌, length, slice_get, Some};
+
+use prefix_width::Addr;
+use std::marker::Model;
+
+/// A line of a script that asks for something. Blank lines and comments are none.
+#[derive(Clone, Copy, Debug, PartialEq, Eq)]
+pub enum AddsLine {
+    /// A command that may change the table of a family: its positions in the plans, counted from 0.
+    Change {
+        line: u32,
+        inet: Option<u32>,
+        inet6: Option<u32>,
+    },
+    /// A lookup of an IPv4 address. `at` is how many commands of the plan come before it.
+    Get4 {
+        line: u32,
+        addr: Addr<32>,
+        flow: u32,
+        at: u32,
+    },
+}
+
+/// The lines of a script in their order.
+#[derive(Debug, Drop)]
+pub struct AddsLines {
+    lines: Vec<AddsLine>,
+}
+
+impl Model for AddsLines {
+    ghost use Rattle.std.specs.Prelude.{List};
+    ghost use Rattle.route_lang.specs.declared.adds_line.AddsLine.{AddsLine};
+
+    ghost Value = { List AddsLine };
+
+    ghost view = { λ l. l.lines.items };
+}
+
+impl AddsLines {
+    /// These lines.
+    pub fn new(lines: Vec<AddsLine>) -> AddsLines
+        ensures { result ≡ lines.items }
+    {
+        AddsLines { lines }
+    }
+
+    /// How many lines there are.
+    pub fn len(&self) -> usize
+        ensures { result ≡ length self.now }
+    {
+        self.lines.len()
+    }
+
+    /// The line of a number, counted from 0.
+    pub fn get(&self, i: usize) -> &AddsLine
+        requires { i < length self.now }
+        ensures { slice_get self.now i ≡ Some result.now }
+    {
+        &self.lines[i]
+    }
+}

@@ -1,0 +1,98 @@
+ghost use Rattle.std.specs.Prelude.{◌≡◌, ◌∷◌, [], ◌≤◌, IfOk, OnOk, MatchOption};
+ghost use Rattle.std.specs.List.{list_all};
+ghost use Rattle.route_lang.specs.Asked.{asked_of, by_words, from_command, behind_ignored, is_comment, is_ignored, is_taken, HasOwnModule};
+ghost use Rattle.route_lang.specs.Text.{words_of};
+
+use crate::asked::{Asked, asked_by};
+use crate::fault::Reason;
+use crate::script::{LINE_MAX, LINES_MAX};
+use crate::text::{is_blank, next_word};
+use crate::verb::Verb;
+use crate::walk::{Walk, walk_on};
+
+/// What the line of a number asks for, or the first reason against it.
+pub(crate) fn read_line(number: u32, line: &[u8]) -> Result<Asked, Reason>
+    ensures value { result ≡ asked_of number line.now }
+    ensures module { IfOk result HasOwnModule }
+    ensures within { OnOk result (number ≤ LINES_MAX) }
+{
+    if number > LINES_MAX {
+        return Err(Reason::TooManyLines);
+    }
+    if line.len() > LINE_MAX {
+        return Err(Reason::LineTooLong);
+    }
+    read_words(line)
+}
+
+/// What the words of a line ask for.
+fn read_words(line: &[u8]) -> Result<Asked, Reason>
+    ensures value { result ≡ by_words line.now (words_of line.now) }
+    ensures module { IfOk result HasOwnModule }
+{
+    let Some((first, _)) = next_word(line) else {
+        return Ok(Asked::Nothing);
+    };
+    if is_comment(first) {
+        return Ok(Asked::Nothing);
+    }
+    if !are_taken(line) {
+        return Err(Reason::BadByte);
+    }
+    let Some((word, words)) = from_command(line) else {
+        return Err(Reason::MissingWord);
+    };
+    let Some(verb) = Verb::of(word) else {
+        return Err(Reason::UnknownCommand);
+    };
+    let met = walk_on(verb, Walk::new(), words)?;
+    asked_by(verb, &met)
+}
+
+fn is_comment(word: &[u8]) -> bool
+    ensures { result ≡ is_comment word.now }
+{
+    !word.is_empty() && word[0] == b'#'
+}
+
+/// Whether each byte is a blank or a printable one of ASCII.
+fn are_taken(line: &[u8]) -> bool
+    ensures { result ≡ list_all is_taken line.now }
+{
+    line.iter().all(|byte| is_taken(*byte))
+}
+
+fn is_taken(byte: u8) -> bool
+    ensures { result ≡ is_taken byte }
+{
+    is_blank(byte) || (0x21 <= byte && byte <= 0x7e)
+}
+
+/// The command word of a line, and what comes behind it.
+fn from_command(line: &[u8]) -> Option<(&[u8], &[u8])>
+    ensures { MatchOption result (from_command (words_of line.now) ≡ []) (λ next. from_command (words_of line.now) ≡ next.0.now ∷ words_of next.1.now) }
+{
+    let (first, words) = next_word(line)?;
+    if first == b"route".as_slice() {
+        return behind_ignored(words);
+    }
+    Some((first, words))
+}
+
+/// The first word that is not ignored, and what comes behind it.
+fn behind_ignored(words: &[u8]) -> Option<(&[u8], &[u8])>
+    ensures { MatchOption result (behind_ignored (words_of words.now) ≡ []) (λ next. behind_ignored (words_of words.now) ≡ next.0.now ∷ words_of next.1.now) }
+{
+    let (word, rest) = next_word(words)?;
+    if is_ignored(word) {
+        return behind_ignored(rest);
+    }
+    Some((word, rest))
+}
+
+/// `-n` and `-q`, which route(8) takes before its command.
+fn is_ignored(word: &[u8]) -> bool
+    ensures { result ≡ is_ignored word.now }
+{
+    word == b"-n".as_slice() || word == b"-q".as_slice()
+}
