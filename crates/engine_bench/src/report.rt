@@ -1,0 +1,190 @@
+ghost use Rattle.std.specs.Prelude.{◌≡◌, ◌+◌, ◌*◌, ◌/◌, ◌%◌, ◌<◌, ◌≤◌};
+ghost use Rattle.module_trait.specs.Rows.{AreRows};
+
+use crate::addresses::{inside, uniform};
+use crate::family::family_name;
+use crate::fault::{Fault, print_fault};
+use crate::job::Job;
+use crate::measure::{measure, sum_of};
+use crate::routes::{count_starts, draw_routes};
+use module_trait::{Module, ScanTable, Steps};
+use prefix_width::{Addr, Prefix};
+use range_search::RangeTable;
+use std::sync::ledger::{Blank, Ledger};
+use std::time::CpuClock;
+
+/// At how many routes the sums are printed, and up to how many the plain module is measured, whose
+/// lookup reads every row.
+const PLAIN_ROUTES: usize = 1_000;
+
+/// How many of the addresses the plain module looks up.
+const PLAIN_ADDRESSES: usize = 65_536;
+
+/// Does a job, with the counter of a ledger, which the blank is for.
+pub(crate) fn work<R: Print + AllocGlobal + CpuClock, L: Ledger>(
+    rt: &R,
+    job: Job,
+    blank: Blank,
+) -> Result<(), Fault>
+    requires name { blank.name ≡ L.name }
+    requires parts { blank.parts ≡ L.parts }
+    requires some { 0 < blank.parts }
+{
+    let mut steps: Steps<L> = Steps::new(rt.alloc(), blank)?;
+    match job {
+        Job::Sums => {
+            print_sums::<32, R, L>(rt, &mut steps)?;
+            print_sums::<128, R, L>(rt, &mut steps)
+        }
+        Job::Time(count) => {
+            print_times::<32, R, L>(rt, count, &mut steps)?;
+            print_times::<128, R, L>(rt, count, &mut steps)
+        }
+    }
+}
+
+/// Prints the check sums of a family.
+fn print_sums<const W: u32, R: Print + AllocGlobal, L: Ledger>(
+    rt: &R,
+    steps: &mut Steps<L>,
+) -> Result<(), Fault>
+    requires { (1 ≤ W) × (W ≤ 128) }
+{
+    let routes = draw_routes::<W>(rt.alloc(), PLAIN_ROUTES)?;
+    let rows = routes.rows.as_slice();
+    let addrs = inside(rt.alloc(), routes.prefixes.as_slice())?;
+    print_both_sums(rt, ("inside", "inside65536"), rows, addrs.as_slice(), steps)?;
+    if W == 32 {
+        let addrs = uniform::<W>(rt.alloc())?;
+        print_both_sums(
+            rt,
+            ("uniform", "uniform65536"),
+            rows,
+            addrs.as_slice(),
+            steps,
+        )?;
+    }
+    Ok(())
+}
+
+/// Prints the sum of sorted ranges, and those of both modules over the first addresses.
+fn print_both_sums<const W: u32, R: Print + AllocGlobal, L: Ledger>(
+    rt: &R,
+    kinds: (&str, &str),
+    rows: &[(Prefix<W>, u16)],
+    addrs: &[Addr<W>],
+    steps: &mut Steps<L>,
+) -> Result<(), Fault>
+    requires { AreRows rows.now }
+{
+    let few = &addrs[..addrs.len().min(PLAIN_ADDRESSES)];
+    print_sum::<W, RangeTable<W>, R, L>(rt, ("range", kinds.0), rows, addrs, steps)?;
+    print_sum::<W, RangeTable<W>, R, L>(rt, ("range", kinds.1), rows, few, steps)?;
+    print_sum::<W, ScanTable<W>, R, L>(rt, ("scan", kinds.1), rows, few, steps)
+}
+
+/// Builds a module and prints the check sum of its answers, behind the module and the kind of the
+/// addresses.
+fn print_sum<const W: u32, M: Module<W>, R: Print + AllocGlobal, L: Ledger>(
+    rt: &R,
+    names: (&str, &str),
+    rows: &[(Prefix<W>, u16)],
+    addrs: &[Addr<W>],
+    steps: &mut Steps<L>,
+) -> Result<(), Fault>
+    requires { AreRows rows.now }
+{
+    let table = M::build(rt.alloc(), rows)?;
+    let sum = sum_of(&table, addrs, steps);
+    let (module, kind) = names;
+    let family = family_name::<W>();
+    let count = rows.len();
+    match println!(rt; "{module} {family} {kind} {count} {sum}") {
+        Ok(()) => Ok(()),
+        Err(error) => Err(print_fault(&error)),
+    }
+}
+
+/// Prints what the modules are measured at in a family.
+fn print_times<const W: u32, R: Print + AllocGlobal + CpuClock, L: Ledger>(
+    rt: &R,
+    count: usize,
+    steps: &mut Steps<L>,
+) -> Result<(), Fault>
+    requires { (1 ≤ W) × (W ≤ 128) }
+{
+    let routes = draw_routes::<W>(rt.alloc(), count)?;
+    let rows = routes.rows.as_slice();
+    let addrs = inside(rt.alloc(), routes.prefixes.as_slice())?;
+    print_both_times(rt, "inside", rows, addrs.as_slice(), steps)?;
+    if W == 32 {
+        let addrs = uniform::<W>(rt.alloc())?;
+        print_both_times(rt, "uniform", rows, addrs.as_slice(), steps)?;
+    }
+    Ok(())
+}
+
+/// Prints what sorted ranges are measured at, and the plain module where the rows are few.
+fn print_both_times<const W: u32, R: Print + AllocGlobal + CpuClock, L: Ledger>(
+    rt: &R,
+    kind: &str,
+    rows: &[(Prefix<W>, u16)],
+    addrs: &[Addr<W>],
+    steps: &mut Steps<L>,
+) -> Result<(), Fault>
+    requires { AreRows rows.now }
+{
+    let cells = count_starts(rt.alloc(), rows)?;
+    let bytes = cells.saturating_mul(size_of::<(u128, u16)>());
+    print_time::<W, RangeTable<W>, R, L>(rt, ("range", kind), rows, addrs, bytes, steps)?;
+    if rows.len() > PLAIN_ROUTES {
+        return Ok(());
+    }
+    let few = &addrs[..addrs.len().min(PLAIN_ADDRESSES)];
+    let bytes = rows.len().saturating_mul(size_of::<(Prefix<W>, u16)>());
+    print_time::<W, ScanTable<W>, R, L>(rt, ("scan", kind), rows, few, bytes, steps)
+}
+
+/// Measures a module of so many bytes and prints the figures, behind the module and the kind of
+/// the addresses.
+fn print_time<const W: u32, M: Module<W>, R: Print + AllocGlobal + CpuClock, L: Ledger>(
+    rt: &R,
+    names: (&str, &str),
+    rows: &[(Prefix<W>, u16)],
+    addrs: &[Addr<W>],
+    bytes: usize,
+    steps: &mut Steps<L>,
+) -> Result<(), Fault>
+    requires { AreRows rows.now }
+{
+    let figures = measure::<W, M, R, L>(rt, rows, addrs, steps)?;
+    let (module, kind) = names;
+    let family = family_name::<W>();
+    let (count, lookups, sum) = (rows.len(), addrs.len(), figures.sum);
+    let (nanos, nano_tenths) = tenths(figures.lookups.as_nanos(), lookups);
+    let (millis, micros) = milliseconds(figures.build.as_micros());
+    let (bytes, byte_tenths) = tenths(bytes as u128, count);
+    match println!(rt;
+        "{module} {family} {kind} {count}: {nanos}.{nano_tenths} ns a lookup, {millis}.{micros:03} ms to build, {bytes}.{byte_tenths} bytes a route, sum {sum} of {lookups}"
+    ) {
+        Ok(()) => Ok(()),
+        Err(error) => Err(print_fault(&error)),
+    }
+}
+
+/// A quotient, cut off behind its first decimal: the whole part and the tenths. By 0 it divides as
+/// by 1.
+fn tenths(dividend: u128, divisor: usize) -> (u128, u128)
+    ensures { result.1 ≤ 9 }
+{
+    let all = dividend.saturating_mul(10) / (divisor as u128).max(1);
+    (all / 10, all % 10)
+}
+
+/// Microseconds as whole milliseconds and the microseconds behind them.
+fn milliseconds(micros: u128) -> (u128, u128)
+    ensures whole { result.0 ≡ micros / 1_000 }
+    ensures rest { result.1 ≡ micros % 1_000 }
+{
+    (micros / 1_000, micros % 1_000)
+}
