@@ -1,10 +1,11 @@
--- What the words of one line ask for.
-use Rattle.std.specs.Prelude.{ℕ, ◌==◌, Bool, nat_lt, List, [], ◌∷◌, length, Option, Some, None, option_map, slice_index, bytes_eq, codes, if◌then◌else◌}
+-- What the words of one line ask for, in the form of a script that only adds and looks up.
+use Rattle.std.specs.Prelude.{ℕ, nat_lt, List, [], ◌∷◌, length, Option, Some, None, option_map, bytes_eq, codes, if◌then◌else◌}
 use Rattle.prefix_width.specs.declared.nexthop.NhKind.TheVariants.{Via}
 use Rattle.prefix_width.specs.Prefix.{Block}
 use Rattle.prefix_width.specs.Path.{WeightedHop}
 use Rattle.addr_text.specs.Address.{ipv4_of}
 use Rattle.addr_text.specs.PrefixText.{block_of}
+use Rattle.route_lang.specs.Asked.{is_comment}
 use Rattle.route_lang.specs.Text.{words_of}
 use Rattle.route_lang.specs.declared.adds_asked.AddsAsked.{AddsAsked}
 use Rattle.route_lang.specs.declared.adds_asked.AddsAsked.TheVariants.{Nothing, Add, Get}
@@ -29,10 +30,6 @@ add_of words = None
 abbrev pub get_of : List (List ℕ) → Option AddsAsked
 get_of (address ∷ []) = option_map Get (ipv4_of address)
 get_of words = None
-
--- whether a line with this first word is a comment
-abbrev pub is_comment : List ℕ → Bool
-is_comment word = slice_index word 0 == 35
 
 -- the words of a line, or None where they are not built
 abbrev pub asked_by : List (List ℕ) → Option AddsAsked

@@ -1,4 +1,5 @@
--- Script grammar: a text is a plan and the lines that speak of it, or its first line that is not in the form.
+-- The form of a script that only adds and looks up: a text is a plan and the lines that speak of it, or its first line
+-- that is not in the form.
 use Rattle.std.specs.Prelude.{◌≡◌, ℕ, ◌+◌, ◌≤◌, ◌==◌, ◌&&◌, not, true, false, Bool, nat_lt, List, [], ◌∷◌, ◌++◌, length, slice_get, Option, Some, None, Result, Ok, Err, if◌then◌else◌}
 use Rattle.std.specs.List.{list_any}
 use Rattle.std.specs.Arc.{arc_value}

@@ -1,5 +1,5 @@
 -- What a line asks for: the commands that its words make, or the first reason against it.
-use Rattle.std.specs.Prelude.{◌≡◌, ℕ, ◌==◌, ◌||◌, ◌&&◌, Bool, true, false, nat_lt, nat_le, List, [], ◌∷◌, length, Option, Some, None, option_map, Result, Ok, Err, slice_index, bytes_eq, codes, if◌then◌else◌}
+use Rattle.std.specs.Prelude.{◌≡◌, ℕ, ◌==◌, ◌||◌, ◌&&◌, not, Bool, true, false, nat_lt, nat_le, List, [], ◌∷◌, length, Option, Some, None, option_map, Result, Ok, Err, slice_index, bytes_eq, codes, if◌then◌else◌}
 use Rattle.std.specs.List.{list_any, list_all}
 use Rattle.prefix_width.specs.Prefix.{Block}
 use Rattle.prefix_width.specs.Path.{WeightedHop}
@@ -37,11 +37,11 @@ or_reason reason (Some x) = Ok x
 
 -- whether a destination is an address alone
 abbrev pub is_alone : List ℕ → Bool
-is_alone word = if bytes_eq word (codes "default") then false else if list_any is_slash word then false else true
+is_alone word = not (bytes_eq word (codes "default") || list_any is_slash word)
 
 -- whether `-net` or `-host` agrees with the destination that a word writes
 abbrev pub agrees : ℕ → Option Flag → List ℕ → Block → Bool
-agrees w (Some flag.Net) word b = if is_alone word then false else true
+agrees w (Some flag.Net) word b = not (is_alone word)
 agrees w (Some flag.Host) word b = b.len == w
 agrees w extent word b = true
 
@@ -129,14 +129,6 @@ IsModuleOf w setting = Unit {0}
 abbrev pub algo_of : (w : ℕ) → Met → Result (Command w) Reason
 algo_of w met = setting_asked w met >>= (λ s. Ok (command.Algo s))
 
--- a command of one family: what is none of the others is a flush
-abbrev pub command_of : (w : ℕ) → Verb → Met → Result (Command w) Reason
-command_of w verb.Add met = add_of w met
-command_of w verb.Change met = change_of w met
-command_of w verb.Delete met = delete_of w met
-command_of w verb.Algo met = algo_of w met
-command_of w verb met = Ok command.Flush
-
 -- ---- what a command asks for
 
 -- whether the family is inet6; without an option it is inet
@@ -152,23 +144,25 @@ get_of met =
     if is_inet6 met.family then address_asked 128 met >>= (λ a. Ok (Get6 a (value_or 0 met.flow)))
     else address_asked 32 met >>= (λ a. Ok (Get4 a (value_or 0 met.flow)))
 
-abbrev pub one_family : Verb → Met → Result Asked Reason
-one_family verb met =
-    if is_inet6 met.family then command_of 128 verb met >>= (λ c. Ok (Inet6 c))
-    else command_of 32 verb met >>= (λ c. Ok (Inet c))
+-- the command of the family that an option gives
+abbrev pub in_family : Option Flag → Result (Command 32) Reason → Result (Command 128) Reason → Result Asked Reason
+in_family family inet inet6 = if is_inet6 family then inet6 >>= (λ c. Ok (Inet6 c)) else inet >>= (λ c. Ok (Inet c))
 
 -- a flush without a family is of both
-abbrev pub flush_of : Option Flag → Met → Result Asked Reason
-flush_of None met = Ok (Both shared.Flush)
-flush_of (Some family) met = one_family verb.Flush met
+abbrev pub flush_of : Option Flag → Result Asked Reason
+flush_of None = Ok (Both shared.Flush)
+flush_of (Some family) = in_family (Some family) (Ok command.Flush) (Ok command.Flush)
 
 -- what a command asks for, after the walk over its words
 abbrev pub asked_by : Verb → Met → Result Asked Reason
+asked_by verb.Add met = in_family met.family (add_of 32 met) (add_of 128 met)
+asked_by verb.Change met = in_family met.family (change_of 32 met) (change_of 128 met)
+asked_by verb.Delete met = in_family met.family (delete_of 32 met) (delete_of 128 met)
+asked_by verb.Get met = get_of met
+asked_by verb.Flush met = flush_of met.family
 asked_by verb.Tick met = tick_of met
 asked_by verb.Sync met = Ok (Both shared.Sync)
-asked_by verb.Get met = get_of met
-asked_by verb.Flush met = flush_of met.family met
-asked_by verb met = one_family verb met
+asked_by verb.Algo met = in_family met.family (algo_of 32 met) (algo_of 128 met)
 
 -- a command of one family sets no module that is not for it
 abbrev pub HasOwnModule : Asked → Type 0

@@ -1,7 +1,8 @@
 ghost use Rattle.std.specs.Prelude.{◌≡◌};
-ghost use Rattle.route_lang.specs.AddsAsked.{asked_of, asked_by, add_of, get_of, is_comment, path_via};
+ghost use Rattle.route_lang.specs.AddsAsked.{asked_of, asked_by, add_of, get_of, path_via};
 ghost use Rattle.route_lang.specs.Text.{words_of};
 
+use crate::read_line::is_comment;
 use crate::script::LINE_MAX;
 use crate::text::next_word;
 use addr_text::{read_prefix, read_v4};
@@ -45,12 +46,6 @@ fn read_words(line: &[u8]) -> Option<AddsAsked>
         return read_get(rest);
     }
     None
-}
-
-fn is_comment(word: &[u8]) -> bool
-    ensures { result ≡ is_comment word.now }
-{
-    !word.is_empty() && word[0] == b'#'
 }
 
 /// The destination and the gateway behind `add`.

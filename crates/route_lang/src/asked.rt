@@ -3,7 +3,7 @@ ghost use Rattle.std.specs.List.{list_any};
 ghost use Rattle.addr_text.specs.Address.{IsFamilyWidth};
 ghost use Rattle.addr_text.specs.PrefixText.{is_slash};
 ghost use Rattle.rib_store.specs.Plan.{IsWrongModule};
-ghost use Rattle.route_lang.specs.Asked.{is_alone, agrees, destination_of, gateway_of, address_asked, path_of, path_asked, path_by, leading, add_of, change_of, delete_of, value_or, setting_of, setting_asked, IsModuleOf, algo_of, command_of, is_inet6, tick_of, get_of, one_family, asked_by, HasOwnModule};
+ghost use Rattle.route_lang.specs.Asked.{is_alone, agrees, destination_of, gateway_of, address_asked, path_asked, leading, add_of, change_of, delete_of, value_or, setting_of, setting_asked, IsModuleOf, algo_of, tick_of, get_of, asked_by, HasOwnModule};
 ghost use Rattle.route_lang.specs.Walk.{met_by, InRange};
 
 use crate::fault::Reason;
@@ -44,14 +44,22 @@ pub(crate) fn asked_by(verb: Verb, walk: &Walk<'_>) -> Result<Asked, Reason>
     ensures value { result ≡ asked_by verb (met_by walk.now) }
     ensures module { IfOk result HasOwnModule }
 {
+    let inet6 = walk.is_inet6();
     match verb {
-        Verb::Tick => tick(walk),
-        Verb::Sync => Ok(Asked::Both(Shared::Sync)),
+        Verb::Add if inet6 => Ok(Asked::Inet6(add(walk)?)),
+        Verb::Add => Ok(Asked::Inet(add(walk)?)),
+        Verb::Change if inet6 => Ok(Asked::Inet6(change(walk)?)),
+        Verb::Change => Ok(Asked::Inet(change(walk)?)),
+        Verb::Delete if inet6 => Ok(Asked::Inet6(delete(walk)?)),
+        Verb::Delete => Ok(Asked::Inet(delete(walk)?)),
+        Verb::Algo if inet6 => Ok(Asked::Inet6(algo(walk)?)),
+        Verb::Algo => Ok(Asked::Inet(algo(walk)?)),
         Verb::Get => get(walk),
         Verb::Flush if walk.family.is_none() => Ok(Asked::Both(Shared::Flush)),
-        Verb::Flush | Verb::Add | Verb::Change | Verb::Delete | Verb::Algo => {
-            one_family(verb, walk)
-        }
+        Verb::Flush if inet6 => Ok(Asked::Inet6(Command::Flush)),
+        Verb::Flush => Ok(Asked::Inet(Command::Flush)),
+        Verb::Tick => tick(walk),
+        Verb::Sync => Ok(Asked::Both(Shared::Sync)),
     }
 }
 
@@ -80,47 +88,47 @@ fn get(walk: &Walk<'_>) -> Result<Asked, Reason>
     }
 }
 
-/// A command of the family that the options give.
-fn one_family(verb: Verb, walk: &Walk<'_>) -> Result<Asked, Reason>
-    requires { InRange walk.now }
-    ensures value { result ≡ one_family verb (met_by walk.now) }
-    ensures module { IfOk result HasOwnModule }
-{
-    if walk.is_inet6() {
-        Ok(Asked::Inet6(command(verb, walk)?))
-    } else {
-        Ok(Asked::Inet(command(verb, walk)?))
-    }
-}
-
-fn command<const W: u32>(verb: Verb, walk: &Walk<'_>) -> Result<Command<W>, Reason>
+fn add<const W: u32>(walk: &Walk<'_>) -> Result<Command<W>, Reason>
     requires width { IsFamilyWidth W }
     requires range { InRange walk.now }
-    ensures value { result ≡ command_of W verb (met_by walk.now) }
+    ensures value { result ≡ add_of W (met_by walk.now) }
     ensures module { IfOk result (λ c. ¬ (IsWrongModule c)) }
 {
-    match verb {
-        Verb::Add => {
-            let prefix = destination(walk)?;
-            let path = path(walk)?;
-            Ok(Command::Add { prefix, path })
-        }
-        Verb::Change => {
-            let prefix = destination(walk)?;
-            let path = path(walk)?;
-            Ok(Command::Change { prefix, path })
-        }
-        Verb::Delete => {
-            let prefix = destination(walk)?;
-            let gateway = gateway(walk)?;
-            Ok(Command::Delete { prefix, gateway })
-        }
-        Verb::Algo => {
-            let setting = setting::<W>(walk)?;
-            Ok(Command::Algo { setting })
-        }
-        Verb::Get | Verb::Flush | Verb::Tick | Verb::Sync => Ok(Command::Flush),
-    }
+    let prefix = destination(walk)?;
+    let path = path(walk)?;
+    Ok(Command::Add { prefix, path })
+}
+
+fn change<const W: u32>(walk: &Walk<'_>) -> Result<Command<W>, Reason>
+    requires width { IsFamilyWidth W }
+    requires range { InRange walk.now }
+    ensures value { result ≡ change_of W (met_by walk.now) }
+    ensures module { IfOk result (λ c. ¬ (IsWrongModule c)) }
+{
+    let prefix = destination(walk)?;
+    let path = path(walk)?;
+    Ok(Command::Change { prefix, path })
+}
+
+fn delete<const W: u32>(walk: &Walk<'_>) -> Result<Command<W>, Reason>
+    requires width { IsFamilyWidth W }
+    requires range { InRange walk.now }
+    ensures value { result ≡ delete_of W (met_by walk.now) }
+    ensures module { IfOk result (λ c. ¬ (IsWrongModule c)) }
+{
+    let prefix = destination(walk)?;
+    let gateway = gateway(walk)?;
+    Ok(Command::Delete { prefix, gateway })
+}
+
+fn algo<const W: u32>(walk: &Walk<'_>) -> Result<Command<W>, Reason>
+    requires width { IsFamilyWidth W }
+    requires range { InRange walk.now }
+    ensures value { result ≡ algo_of W (met_by walk.now) }
+    ensures module { IfOk result (λ c. ¬ (IsWrongModule c)) }
+{
+    let setting = setting::<W>(walk)?;
+    Ok(Command::Algo { setting })
 }
 
 /// The prefix of the destination.
@@ -156,10 +164,7 @@ fn agrees<const W: u32>(extent: Option<Flag>, word: &[u8], prefix: &Prefix<W>) -
 fn is_alone(word: &[u8]) -> bool
     ensures { result ≡ is_alone word.now }
 {
-    if word == b"default".as_slice() {
-        return false;
-    }
-    !has_slash(word)
+    !(word == b"default".as_slice() || has_slash(word))
 }
 
 fn has_slash(word: &[u8]) -> bool

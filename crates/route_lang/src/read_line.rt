@@ -49,7 +49,8 @@ fn read_words(line: &[u8]) -> Result<Asked, Reason>
     asked_by(verb, &met)
 }
 
-fn is_comment(word: &[u8]) -> bool
+/// Whether a line with this first word is a comment.
+pub(crate) fn is_comment(word: &[u8]) -> bool
     ensures { result ≡ is_comment word.now }
 {
     !word.is_empty() && word[0] == b'#'
