@@ -6,6 +6,7 @@
 
 mod addresses;
 mod draws;
+mod edits;
 mod family;
 mod fault;
 mod job;

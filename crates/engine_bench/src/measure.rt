@@ -68,7 +68,7 @@ pub(crate) fn measure<const W: u32, M: Module<W>, R: CpuClock + AllocGlobal, L: 
 }
 
 /// The processor time that this thread has used.
-fn time<R: CpuClock>(rt: &R) -> Result<Duration, Fault> {
+pub(crate) fn time<R: CpuClock>(rt: &R) -> Result<Duration, Fault> {
     match rt.thread_cpu_time() {
         Ok(time) => Ok(time),
         Err(_) => Err(Fault::Clock),

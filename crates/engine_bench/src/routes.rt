@@ -1,6 +1,6 @@
 ghost use Rattle.std.specs.Prelude.{◌≡◌, ◌+◌, ◌-◌, ◌^◌, ◌<◌, ◌≤◌, IfOk, OnOk, length};
 ghost use Rattle.module_trait.specs.Rows.{AreRows, HaveIndexes};
-ghost use Rattle.range_search.specs.Range.{starts_of, with_end_of};
+ghost use Rattle.row_cells.specs.Starts.{starts_of, with_end_of};
 ghost use Rattle.std.specs.BTreeSet.{insert_key};
 ghost use Rattle.std.specs.Option.{SomeIff};
 ghost use Rattle.std.specs.Ordering.{nat_cmp};
@@ -22,14 +22,23 @@ pub(crate) struct Routes<const W: u32> {
     pub(crate) rows: Vec<(Prefix<W>, u16)>,
 }
 
+/// Drawn routes as a view of their rows, with their prefixes in the order in which they are drawn.
+#[derive(Drop)]
+pub(crate) struct Drawing<const W: u32> {
+    /// The prefixes.
+    pub(crate) prefixes: Vec<Prefix<W>>,
+    /// The rows.
+    pub(crate) view: RouteView<W>,
+}
+
 /// Draws so many distinct routes. A prefix that is there already is left out, so there may be
 /// fewer in the end where there are hardly as many prefixes.
-pub(crate) fn draw_routes<const W: u32>(
+pub(crate) fn draw_view<const W: u32>(
     alloc: Global,
     count: usize,
-) -> Result<Routes<W>, OutOfMemory>
+) -> Result<Drawing<W>, OutOfMemory>
     requires { (1 ≤ W) × (W ≤ 128) }
-    ensures { IfOk result (λ routes. AreRows routes.rows.items) }
+    ensures { IfOk result (λ drawing. HaveIndexes drawing.view) }
 {
     let mut draws = Draws::new(1);
     let mut prefixes = Vec::new(alloc);
@@ -43,6 +52,18 @@ pub(crate) fn draw_routes<const W: u32>(
             add(&mut prefixes, &mut view, prefix, drawn.index)?;
         }
     }
+    Ok(Drawing { prefixes, view })
+}
+
+/// Draws so many distinct routes, as [`draw_view`] does.
+pub(crate) fn draw_routes<const W: u32>(
+    alloc: Global,
+    count: usize,
+) -> Result<Routes<W>, OutOfMemory>
+    requires { (1 ≤ W) × (W ≤ 128) }
+    ensures { IfOk result (λ routes. AreRows routes.rows.items) }
+{
+    let Drawing { prefixes, view } = draw_view(alloc, count)?;
     let rows = view.rows(alloc)?;
     Ok(Routes { prefixes, rows })
 }
@@ -108,21 +129,28 @@ fn end_of<const W: u32>(prefix: &Prefix<W>) -> Option<u128>
 {
     let _len = prefix.len();
     let last = prefix.last().value();
-    if last < greatest::<W>() {
+    if last < Addr::<W>::greatest().value() {
         Some(last + 1)
     } else {
         None
     }
 }
 
-/// The greatest address.
-fn greatest<const W: u32>() -> u128
-    requires { W ≤ 128 }
-    ensures { result ≡ 2 ^ W - 1 }
-{
-    if W == 128 {
-        u128::MAX
-    } else {
-        (1u128 << W) - 1
+/// How many nodes a trie of the rows has: one for each row, and one for each prefix without a row
+/// that is the longest one over two neighbours.
+pub(crate) fn count_nodes<const W: u32>(
+    alloc: Global,
+    rows: &[(Prefix<W>, u16)],
+) -> Result<usize, OutOfMemory> {
+    let mut prefixes = BTreeSet::new(alloc);
+    for i in 0..rows.len() {
+        prefixes.insert(rows[i].0)?;
+        if i > 0 {
+            let len = rows[i].0.common_len(&rows[i - 1].0);
+            if let Some(shared) = Prefix::masked(rows[i].0.addr(), len) {
+                prefixes.insert(shared)?;
+            }
+        }
     }
+    Ok(prefixes.len())
 }

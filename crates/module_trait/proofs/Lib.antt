@@ -3,5 +3,6 @@ pub mod CoverLemmas
 pub mod EditLemmas
 pub mod KeyLemmas
 pub mod MatchLemmas
+pub mod PageLemmas
 pub mod UnderLemmas
 pub mod UndoLemmas

@@ -1,3 +1,4 @@
 pub mod Edit
+pub mod Nodes
 pub mod Rows
 pub mod View

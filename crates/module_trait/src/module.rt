@@ -97,6 +97,13 @@ pub trait Module<const W: u32>: Drop {
         ensures done { result ≡ Ok Verdict.Done → stands self.new view.now }
         ensures not_done { result ≢ Ok Verdict.Done → self.new ≡ self.old };
 
+    /// Readies it for copies: a copy after it shares what did not change. What it stands for stays.
+    fn settle(&mut self, alloc: Global) -> Result<(), OutOfMemory>
+        ensures { (rows : List (Block × ℕ)) → stands self.old rows → stands self.new rows }
+    {
+        Ok(())
+    }
+
     /// A module that stands for the same rows.
     fn copy(&self, alloc: Global) -> Result<Self, OutOfMemory>
         ensures { IfOk result (λ copy. (rows : List (Block × ℕ)) → stands self.now rows → stands copy rows) };

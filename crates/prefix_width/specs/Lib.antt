@@ -1,3 +1,4 @@
+pub mod Choice
 pub mod Laws
 pub mod Longest
 pub mod Nexthop

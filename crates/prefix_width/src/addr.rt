@@ -33,6 +33,19 @@ impl<const W: u32> Addr<W> {
         }
     }
 
+    /// The greatest address, all of whose bits are set.
+    pub fn greatest() -> Addr<W>
+        requires { (1 ≤ W) × (W ≤ 128) }
+        ensures { result ≡ 2 ^ W - 1 }
+    {
+        let value = if W == 128 {
+            u128::MAX
+        } else {
+            (1u128 << W) - 1
+        };
+        Addr { value }
+    }
+
     /// The number, and what every address knows of its width.
     pub fn value(&self) -> u128
         ensures value { result ≡ self.now }

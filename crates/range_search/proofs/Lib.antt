@@ -1,6 +1,4 @@
 pub mod BisectLemmas
-pub mod CentralLaw
 pub mod CompareLemmas
-pub mod StartLemmas
-pub mod SweepLemmas
-pub mod UpLemmas
+pub mod EitherLemmas
+pub mod HalfLemmas

@@ -1,2 +1,2 @@
+pub mod Bisect
 pub mod Range
-pub mod Sweep

@@ -2,7 +2,8 @@ ghost use Rattle.std.specs.Prelude.{◌≡◌, ◌<◌, ◌↔◌, IsTrue, IfOk,
 ghost use Rattle.std.specs.Map.{keys_of};
 
 use crate::OutOfMemory;
-use module_trait::{Cells, Steps};
+use crate::start_cells::StartCells;
+use module_trait::Steps;
 use std::alloc::Global;
 use std::marker::Brand;
 use std::sync::ledger::{Blank, Ledger};
@@ -10,7 +11,7 @@ use std::sync::ledger::{Blank, Ledger};
 /// Whether the cells have the starts of others, with a counter of its own.
 pub(crate) fn same_starts(
     alloc: Global,
-    cells: &Cells<(u128, u16)>,
+    cells: &StartCells,
     others: &[(u128, u16)],
 ) -> Result<bool, OutOfMemory>
     ensures { IfOk result (λ same. IsTrue same ↔ (keys_of cells.now ≡ keys_of others.now)) }
@@ -21,7 +22,7 @@ pub(crate) fn same_starts(
 /// [`same_starts`] with the counter of a ledger, which the blank is for.
 fn same_starts_counted<L: Ledger>(
     alloc: Global,
-    cells: &Cells<(u128, u16)>,
+    cells: &StartCells,
     others: &[(u128, u16)],
     blank: Blank,
 ) -> Result<bool, OutOfMemory>
@@ -38,11 +39,7 @@ fn same_starts_counted<L: Ledger>(
 }
 
 /// Whether as many cells have the same starts.
-fn starts_agree<L: Ledger>(
-    cells: &Cells<(u128, u16)>,
-    others: &[(u128, u16)],
-    steps: &mut Steps<L>,
-) -> bool
+fn starts_agree<L: Ledger>(cells: &StartCells, others: &[(u128, u16)], steps: &mut Steps<L>) -> bool
     requires { length cells.now ≡ length others.now }
     ensures { IsTrue result ↔ (keys_of cells.now ≡ keys_of others.now) }
 {

@@ -2,8 +2,10 @@
 //! bisection. After FreeBSD's `sys/netinet/in_fib_algo.c` (bsearch4).
 #![tactic(auto)]
 
+mod bisect;
 mod compare;
-mod sweep;
+mod start;
+mod start_cells;
 mod table;
 
 pub use std::alloc::AllocError as OutOfMemory;

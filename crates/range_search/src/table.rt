@@ -1,21 +1,23 @@
 ghost use Rattle.std.specs.Prelude.{◌≡◌, ◌≢◌, ◌-◌, ◌/◌, max, length, Ok, OnOk};
 ghost use Rattle.std.specs.Map.{keys_of};
 ghost use Rattle.module_trait.specs.Rows.{AreBlocks, IsAscending};
-ghost use Rattle.range_search.specs.Range.{IsRangeOf, AreRight, IsDigits, IsRangeVerdict, starts_of};
+ghost use Rattle.row_cells.specs.Starts.{AreRight, starts_of};
+ghost use Rattle.range_search.specs.Range.{IsRangeOf, IsDigits, IsRangeVerdict};
 
 use crate::OutOfMemory;
 use crate::compare::same_starts;
-use crate::sweep::cells_of;
-use module_trait::{Cells, Edit, Module, RouteView, Steps, Verdict, read_edits};
+use crate::start_cells::StartCells;
+use module_trait::{Edit, Module, RouteView, Steps, Verdict, read_edits};
 use prefix_width::{Addr, Prefix};
+use row_cells::cells_of;
 use std::alloc::Global;
 use std::sync::ledger::Ledger;
 
 /// Sorted ranges: one cell for each start, ascending, with the index of the longest row from there
-/// on, 0 for none. A cell is 32 bytes wide, as wide as the type of an address makes it.
+/// on, 0 for none. A cell of IPv4 takes 8 bytes, and one of IPv6 32.
 #[derive(Drop)]
 pub struct RangeTable<const W: u32> {
-    cells: Cells<(u128, u16)>,
+    cells: StartCells,
 }
 
 impl<const W: u32> RangeTable<W> {
@@ -38,7 +40,7 @@ impl<const W: u32> RangeTable<W> {
         if !same_starts(alloc, &self.cells, cells.as_slice())? {
             return Ok(Verdict::Rebuild);
         }
-        self.cells = Cells::new(cells);
+        self.cells = StartCells::new(alloc, cells)?;
         Ok(Verdict::Done)
     }
 }
@@ -57,32 +59,17 @@ impl<const W: u32> Module<W> for RangeTable<W> {
     fn empty(alloc: Global) -> Result<Self, OutOfMemory> {
         let cells = Vec::from_slice(alloc, &[(0, 0)])?;
         Ok(RangeTable {
-            cells: Cells::new(cells),
+            cells: StartCells::new(alloc, cells)?,
         })
     }
 
     fn load(&mut self, alloc: Global, rows: &[(Prefix<W>, u16)]) -> Result<(), OutOfMemory> {
-        self.cells = Cells::new(cells_of(alloc, rows)?);
+        self.cells = StartCells::new(alloc, cells_of(alloc, rows)?)?;
         Ok(())
     }
 
-    // The index of the last cell so far that begins at or before the address is kept beside the
-    // bisection, which spares a read at its end.
     fn find<L: Ledger>(&self, addr: &Addr<W>, steps: &mut Steps<L>) -> Option<u16> {
-        let value = addr.value();
-        let mut low = 0;
-        let mut high = self.cells.len();
-        let mut index = 0u16;
-        while low < high {
-            let middle = low + (high - low) / 2;
-            let cell = *self.cells.at(middle, steps);
-            if cell.0 <= value {
-                index = cell.1;
-                low = middle + 1;
-            } else {
-                high = middle;
-            }
-        }
+        let index = self.cells.last_index(addr.value(), steps);
         if index == 0 { None } else { Some(index) }
     }
 

@@ -2,7 +2,6 @@ ghost use Rattle.std.specs.Prelude.{◌≡◌, ◌<◌, ◌≤◌, IfOk, OnOk};
 ghost use Rattle.module_trait.specs.Rows.{HaveIndexes};
 
 use crate::RangeTable;
-use crate::sweep::cells_of;
 use module_trait::{Edit, Module, RouteView, ScanTable, Steps, Verdict};
 use prefix_width::{Addr, Prefix};
 use std::alloc::Global;
@@ -66,7 +65,7 @@ fn ask<L: Ledger>(
     Ok(table.lookup(addr, steps))
 }
 
-// The three routes of the first test.
+// A prefix and its two halves.
 fn three_routes(alloc: Global) -> Result<RouteView<32>, Fail>
     ensures { IfOk result HaveIndexes }
 {
@@ -75,16 +74,6 @@ fn three_routes(alloc: Global) -> Result<RouteView<32>, Fail>
     put(&mut view, LOW_9, 2)?;
     put(&mut view, HIGH_9, 3)?;
     Ok(view)
-}
-
-#[test]
-fn three_routes_have_four_starts(rt: HostRuntime) -> Result<(), Fail> {
-    let alloc = rt.alloc();
-    let rows = three_routes(alloc)?.rows(alloc)?;
-    let cells = cells_of(alloc, rows.as_slice())?;
-    let want = [(0, 0), (0x0a00_0000, 2), (0x0a80_0000, 3), (0x0b00_0000, 0)];
-    assert!(rt; cells.as_slice() == want.as_slice());
-    Ok(())
 }
 
 fn take_edits<L: Ledger>(rt: &impl Abort, alloc: Global, blank: Blank) -> Result<(), Fail>

@@ -1,0 +1,5 @@
+pub mod AnswerLemmas
+pub mod ChunkLemmas
+pub mod FillLemmas
+pub mod FindLemmas
+pub mod RunLemmas

@@ -1,0 +1,16 @@
+use Rattle.std.proofs.Common.{◌∙◌, ℕ, List, ap, subst}
+use Rattle.std.specs.Map.{keys_of}
+use Rattle.dxr_table.specs.Dxr.{AreRightChunks, index_in}
+use Rattle.dxr_table.proofs.AnswerLemmas.{first_cell, stands_for, up_cells}
+use Rattle.dxr_table.proofs.table.DxrTableModule32.load.Goals as goal
+
+pub of_cells-requires-clause-first : goal.of_cells-requires-clause-first
+of_cells-requires-clause-first c = first_cell c.args.rows.now c.as_slice.result.now (ap keys_of c.as_slice.ensures.value ∙ c.in_ok-cells.ensures.starts)
+
+pub of_cells-requires-clause-ascending : goal.of_cells-requires-clause-ascending
+of_cells-requires-clause-ascending c = up_cells c.args.rows.now c.as_slice.result.now (ap keys_of c.as_slice.ensures.value ∙ c.in_ok-cells.ensures.starts)
+
+pub returns : goal.returns
+returns c =
+    stands_for c.args.rows.now c.in_ok-cells.cells.items _ c.in_ok-cells.ensures.blocks c.requires.indexes c.in_ok-cells.ensures.starts c.in_ok-cells.ensures.right
+    (subst (λ (cells : List (ℕ × ℕ)). AreRightChunks (index_in cells) 65536 c.in_ok-self.field-0) c.as_slice.ensures.value c.in_ok-self.ensures)

@@ -1,0 +1,2 @@
+pub mod Dxr
+pub mod Making

@@ -1,0 +1,15 @@
+ghost use Rattle.std.specs.Prelude.{◌≡◌, IfErr};
+ghost use Rattle.epoch_bench.specs.declared.fault.Fault.TheVariants.{Clock};
+
+use crate::fault::Fault;
+use std::time::{CpuClock, Duration};
+
+/// The processor time that this thread has used.
+pub(crate) fn cpu_time<R: CpuClock>(rt: &R) -> Result<Duration, Fault>
+    ensures { IfErr result (λ e. e ≡ Clock) }
+{
+    match rt.thread_cpu_time() {
+        Ok(time) => Ok(time),
+        Err(_) => Err(Fault::Clock),
+    }
+}

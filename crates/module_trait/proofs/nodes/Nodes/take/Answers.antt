@@ -1,0 +1,7 @@
+use Rattle.module_trait.proofs.PageLemmas.{kept_set}
+use Rattle.module_trait.proofs.nodes.Nodes.take.Goals as goal
+
+pub invariant_of-self : goal.invariant_of-self
+invariant_of-self g c =
+    let present = rw (← c.self.view_is) at c.requires in
+    rw (c.mark.ensures, c.remove-node.ensures.slots) (kept_set _ _ _ _ _ _ _ c.self.invariant present)

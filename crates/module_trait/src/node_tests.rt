@@ -1,0 +1,58 @@
+ghost use Rattle.std.specs.Prelude.{◌≡◌, ◌<◌, IsSome};
+
+use crate::{NodeReads, Nodes, Steps};
+use std::alloc::Global;
+use std::marker::Brand;
+use std::process::Abort;
+use std::sync::ledger::{Blank, Ledger};
+use std::test::Fail;
+
+// The node at a key, from a store or a copy.
+fn read<N: NodeReads<Node = u32>, L: Ledger>(nodes: &N, key: usize, steps: &mut Steps<L>) -> u32
+    requires { IsSome (N.node nodes.now key) }
+{
+    *nodes.at(key, steps)
+}
+
+fn copies_keep<L: Ledger>(
+    rt: &impl Abort,
+    alloc: Global,
+    steps: &mut Steps<L>,
+) -> Result<(), Fail> {
+    let mut nodes = Nodes::new(alloc);
+    nodes.reserve(1)?;
+    let key = nodes.put(10);
+    nodes.settle(alloc)?;
+    let copy = nodes.copy(alloc)?;
+    nodes.set(key, 11);
+    assert_eq!(rt; read(&copy, key, steps), 10);
+    assert_eq!(rt; read(&nodes, key, steps), 11);
+    Ok(())
+}
+
+fn thaws<L: Ledger>(rt: &impl Abort, alloc: Global, steps: &mut Steps<L>) -> Result<(), Fail> {
+    let mut nodes = Nodes::new(alloc);
+    nodes.reserve(1)?;
+    let key = nodes.put(10);
+    let copy = nodes.copy(alloc)?.copy(alloc)?;
+    let mut thawed = copy.thaw(alloc)?;
+    assert_eq!(rt; thawed.take(key), 10);
+    assert_eq!(rt; read(&copy, key, steps), 10);
+    Ok(())
+}
+
+// With a counter of this ledger.
+fn keep_their_nodes<L: Ledger>(rt: &impl Abort, alloc: Global, blank: Blank) -> Result<(), Fail>
+    requires name { blank.name ≡ L.name }
+    requires parts { blank.parts ≡ L.parts }
+    requires some { 0 < blank.parts }
+{
+    let mut steps = Steps::<L>::new(alloc, blank)?;
+    copies_keep(rt, alloc, &mut steps)?;
+    thaws(rt, alloc, &mut steps)
+}
+
+#[test]
+fn copies_keep_their_nodes(rt: HostRuntime) -> Result<(), Fail> {
+    keep_their_nodes::<Brand>(&rt, rt.alloc(), Blank::new(1))
+}

@@ -1,0 +1,12 @@
+pub mod BelowLemmas
+pub mod EditLemmas
+pub mod FindLemmas
+pub mod PathLemmas
+pub mod PlanLemmas
+pub mod PutLemmas
+pub mod ReplaceLemmas
+pub mod RewriteLemmas
+pub mod SpotLemmas
+pub mod SwapLemmas
+pub mod TableLemmas
+pub mod TreeLemmas

@@ -1,0 +1,13 @@
+use Rattle.std.proofs.Common.{sym, subst}
+use Rattle.radix_lockless.specs.declared.table.Form.{Form}
+use Rattle.radix_lockless.specs.Form.{linked_of}
+use Rattle.radix_lockless.specs.Table.{IsSameAs, working}
+use Rattle.radix_lockless.proofs.TableLemmas.{edited_alike}
+use Rattle.radix_lockless.proofs.table.make_edits.Goals as goal
+
+pub returns-in_ok-apply-in-Frozen-clause-ok : goal.returns-in_ok-apply-in-Frozen-clause-ok
+returns-in_ok-apply-in-Frozen-clause-ok g c =
+    let copy = working c.in_ok-trie-in-Frozen.trie in
+    edited_alike (linked_of c.args.form.now) copy (working c.apply-in-Frozen.new.trie) c.args.edits.now
+    (subst (λ (f : Form g.row.W). IsSameAs (linked_of f) copy) (sym c.in-Frozen.is) c.in_ok-trie-in-Frozen.ensures)
+    c.in_ok-apply-in-Frozen.ensures.ok

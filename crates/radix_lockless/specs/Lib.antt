@@ -1,0 +1,5 @@
+pub mod Form
+pub mod Path
+pub mod Spot
+pub mod Table
+pub mod Trie

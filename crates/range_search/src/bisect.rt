@@ -1,0 +1,47 @@
+ghost use Rattle.std.specs.Prelude.{◌≡◌, ℕ, ◌+◌, ◌^◌, ◌<◌, ◌≤◌, if◌then◌else◌, length};
+ghost use Rattle.range_search.specs.Bisect.{IsLast};
+
+use crate::start::Start;
+use module_trait::{Cells, Steps};
+use std::sync::ledger::Ledger;
+
+/// The index of the last of ascending cells that begins at or before an address, in as many steps
+/// as the number of cells has binary digits.
+// What is left is half of what was left on either side, so that the number of turns hangs on no
+// address, and the index is kept beside it, which spares a read at the end.
+pub(crate) fn last_index<S: Start, L: Ledger>(
+    cells: &Cells<(S, u16)>,
+    value: S,
+    steps: &mut Steps<L>,
+) -> u16
+    ensures last { IsLast S.number cells.now (S.number value) result }
+    ensures cost { (bits : ℕ) → length cells.now < 2 ^ bits → steps.new ≤ steps.old + bits }
+{
+    let mut index = 0u16;
+    let mut low = 0;
+    let mut size = cells.len();
+    while size > 0 {
+        let half = size / 2;
+        let middle = low + half;
+        let cell = *cells.at(middle, steps);
+        let begun = cell.0.is_reached(value);
+        index = pick_index(begun, cell.1, index);
+        low = pick_place(begun, middle + size % 2, low);
+        size = half;
+    }
+    index
+}
+
+// Looked up in place of chosen, which would be compiled to a jump that hangs on the address.
+fn pick_index(first: bool, a: u16, b: u16) -> u16
+    ensures { result ≡ (if first then a else b) }
+{
+    [b, a][first as usize]
+}
+
+// The same for places.
+fn pick_place(first: bool, a: usize, b: usize) -> usize
+    ensures { result ≡ (if first then a else b) }
+{
+    [b, a][first as usize]
+}
