@@ -1,5 +1,5 @@
 -- Slots: the shares are all of them, each is filled, and a flow's slot stands for its path.
-use Rattle.std.proofs.Common.{◌≡◌, ℕ, suc, ◌+◌, ◌-◌, ◌*◌, ◌/◌, ◌%◌, ◌<◌, ◌≤◌, Bool, true, false, cond, nat_lt, List, [], ◌∷◌, ◌++◌, Some, refl, sym, ◌∙◌, ap, subst, arith, length, sum, take, drop, get_or, replicate, map, length-append}
+use Rattle.std.proofs.Common.{◌≡◌, ℕ, suc, ◌+◌, ◌-◌, ◌*◌, ◌/◌, ◌%◌, ◌<◌, ◌≤◌, Bool, true, false, cond, nat_lt, List, [], ◌∷◌, ◌++◌, Some, refl, sym, ◌∙◌, ap, subst, arith, length, sum, take, drop, get_or, replicate, map, length-append, zero-add}
 use Rattle.std.specs.Prelude.{All, slice_get}
 use Rattle.std.proofs.Math.Nat.{mul-div_cancel, mul-sub, mul-div_cancel_left, mul-le-mul_left, div-le_of_le-mul, div-mul_cancel, mod-lt}
 use Rattle.std.proofs.lemmas.Bool.{ltb-true, ltb-false}
@@ -180,3 +180,28 @@ slots_hold_picked ps indexes have same flow =
       sym (get-fill ns (hops ps) slot (k ∙ sym l ∙ sym n) within),
       sym (get-fill ns indexes slot (same ∙ sym l ∙ sym n) within) ∙ ap (λ m. slice_get (slots_of ps indexes) (flow % m)) (sym filled),
     )
+
+-- a slot of several marks alone, and one past them
+slice_get-append : {X : Type 0} (xs ys : List X) (i : ℕ) → slice_get (xs ++ ys) (length xs + i) ≡ slice_get ys i
+slice_get-append [] ys i = ap (slice_get ys) (zero-add i)
+slice_get-append (x ∷ xs) ys i =
+    let e : length (x ∷ xs) + i ≡ suc (length xs + i) = omega arith in
+    ap (slice_get (x ∷ xs ++ ys)) e ∙ slice_get-append xs ys i
+
+pub slot_within : {X : Type 0} (n slot : ℕ) (x : X) (ys : List X) → slot < n → slice_get (replicate n x ++ ys) slot ≡ Some x
+slot_within {X} n slot x ys h =
+    let l = length-replicate n x in
+    let k = length-append (replicate n x) ys in
+    let a = get_or_append_left (replicate n x) ys x slot (omega arith) in
+    let r = get_or-replicate n slot x x h in
+    slice_get-get_or (replicate n x ++ ys) slot x (omega arith) ∙ ap (λ (y : X). Some y) (a ∙ r)
+
+pub slot_past : {X : Type 0} (n slot : ℕ) (x : X) (ys : List X) → n ≤ slot → slice_get (replicate n x ++ ys) slot ≡ slice_get ys (slot - n)
+slot_past n slot x ys h =
+    let l = length-replicate n x in
+    let e : length (replicate n x) + (slot - n) ≡ slot = omega arith in
+    ap (slice_get (replicate n x ++ ys)) (sym e) ∙ slice_get-append (replicate n x) ys (slot - n)
+
+-- the slots from a path on: its share, and those of the paths behind it
+pub slots_from : (slots total : ℕ) (ps : List WeightedHop) (i : ℕ) (p : WeightedHop) → i < length ps → p ≡ get_or ps i p → fill (shares slots total (weights (drop i ps))) (hops (drop i ps)) ≡ replicate (p.weight * slots / total) p.nexthop ++ fill (shares (slots - p.weight * slots / total) (total - p.weight) (weights (drop (i + 1) ps))) (hops (drop (i + 1) ps))
+slots_from slots total ps i p h e = ap (λ qs. fill (shares slots total (weights qs)) (hops qs)) (drop_more ps i p h ∙ ap (λ (q : WeightedHop). q ∷ drop (i + 1) ps) (sym e))

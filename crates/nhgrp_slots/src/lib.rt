@@ -15,7 +15,7 @@ pub use laws::{
     law_shares_are_all, law_slots_are_filled, law_slots_hold_picked, law_small_shares_are_exact,
 };
 pub use paths::Paths;
-pub use slots::{Slots, compile};
+pub use slots::{Slots, compile, pick};
 pub use std::alloc::AllocError as OutOfMemory;
 pub use target::Target;
 

@@ -1,11 +1,11 @@
 ghost use Rattle.std.specs.Prelude.{◌≡◌, ◌≤◌, ◌++◌, All, IfOk, OnOk, length, replicate, sum};
 ghost use Rattle.prefix_width.specs.Path.{IsWeight};
-ghost use Rattle.nhgrp_slots.specs.Slots.{HaveWeights, HoldPicked, slots_of, weights};
+ghost use Rattle.nhgrp_slots.specs.Slots.{HaveWeights, HoldPicked, pick, slots_of, weights};
 
 use crate::OutOfMemory;
 use crate::divisor::common_divisor;
 use crate::paths::Paths;
-use prefix_width::Path;
+use prefix_width::{Nexthop, Path};
 use std::alloc::Global;
 use std::marker::Model;
 
@@ -70,6 +70,27 @@ pub fn compile<const W: u32>(
 {
     let indexes = filled(alloc, paths.as_slice(), indexes)?;
     Ok(Slots { indexes })
+}
+
+/// The nexthop of a flow: the path whose share of the slots holds the flow's slot. It takes no
+/// memory.
+pub fn pick<const W: u32>(paths: &Paths<W>, flow: u32) -> Option<Nexthop<W>>
+    ensures { result ≡ pick paths.now flow }
+{
+    let paths = paths.as_slice();
+    let mut sum = sum_of(paths);
+    let mut slots = (sum / common_divisor(paths)).min(SLOTS_MAX);
+    let mut slot = flow % slots;
+    for path in paths {
+        let share = path.weight() * slots / sum;
+        if slot < share {
+            return Some(*path.nexthop());
+        }
+        slot -= share;
+        slots -= share;
+        sum -= path.weight();
+    }
+    None
 }
 
 /// The slots of paths, and what all paths know of their weights.

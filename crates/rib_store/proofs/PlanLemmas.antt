@@ -25,7 +25,7 @@ equal_from_is_eq Equal e = refl
 equal_from_is_eq Greater e = cc
 
 -- nexthops that the order finds the same are one
-one_hop : (h k : Hop) → is_eq (hop_cmp h k) ≡ true → h ≡ k
+pub one_hop : (h k : Hop) → is_eq (hop_cmp h k) ≡ true → h ≡ k
 one_hop h k e = hop_exact h k (equal_from_is_eq (hop_cmp h k) e)
 
 same_back : (h k : Hop) → is_eq (hop_cmp h k) ≡ is_eq (hop_cmp k h)

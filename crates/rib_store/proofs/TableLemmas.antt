@@ -10,8 +10,14 @@ use Rattle.std.proofs.Math.Seq.{take-length}
 use Rattle.prefix_width.specs.Prefix.{Block}
 use Rattle.prefix_width.specs.Path.{WeightedHop}
 use Rattle.prefix_width.specs.Order.{block_cmp}
+use Rattle.std.specs.Cmp.{IsTotalOrder}
+use Rattle.std.proofs.lemmas.Cmp.{nat_cmp_total, on_total, then_total}
 use Rattle.rib_store.specs.declared.command.Command.{Command}
 use Rattle.rib_store.specs.Table.{Table, paths_at, put_row, apply, table_of, table_after}
+
+-- prefixes are in a total order
+pub block_total : IsTotalOrder block_cmp
+block_total = then_total (on_total (λ b. b.base) nat_cmp_total) (on_total (λ b. b.len) nat_cmp_total)
 
 skip : (t : Bool) (paths : List WeightedHop) (rest : Option (List WeightedHop)) → cond t (Some paths) rest ≡ None → (t ≡ false) × (rest ≡ None)
 skip true paths rest e = cc

@@ -1,3 +1,7 @@
 pub mod Answer
+pub mod Laws
+pub mod Live
 pub mod Plan
 pub mod Table
+pub mod Targets
+pub mod Uses

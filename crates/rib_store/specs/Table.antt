@@ -1,15 +1,20 @@
 -- The table, and what commands do to it: said on the list of its rows.
-use Rattle.std.specs.Prelude.{◌≡◌, ℕ, ◌<◌, List, [], ◌∷◌, length, take, fold, Option, None}
-use Rattle.std.specs.Map.{lookup}
+use Rattle.std.specs.Prelude.{ℕ, ◌+◌, ◌-◌, nat_le, nat_lt, List, [], ◌∷◌, length, take, fold, filter, not, Option, Some, None, if◌then◌else◌}
+use Rattle.std.specs.List.{list_any}
+use Rattle.std.specs.Map.{lookup, remove_entry, values_of}
 use Rattle.std.specs.BTreeMap.{insert_entry, is_at}
 use Rattle.prefix_width.specs.Prefix.{Block}
 use Rattle.prefix_width.specs.Path.{WeightedHop}
 use Rattle.prefix_width.specs.Order.{block_cmp}
+use Rattle.nhgrp_slots.specs.PathList.{put_path, clashes, goes_by, has_via, left_by, paths_left}
+use Rattle.rib_store.specs.Live.{live_hops, live_groups}
 use Rattle.rib_store.specs.declared.command.Command.{Command}
-use Rattle.rib_store.specs.declared.command.Command.TheVariants.{Add}
+use Rattle.rib_store.specs.declared.command.Command.TheVariants.{Add, Change, Delete, Flush, Tick, Sync, Algo}
 use Rattle.rib_store.specs.declared.command.Reply.{Reply}
-use Rattle.rib_store.specs.declared.command.Reply.TheVariants.{Added, Nothing}
-use Rattle.rib_store.specs.declared.rib.TheConstants.{ADDS_MAX}
+use Rattle.rib_store.specs.declared.command.Reply.TheVariants.{Added, Joined, Changed, Deleted, Flushed, Nothing, Refused}
+use Rattle.rib_store.specs.declared.command.Refusal.{Refusal}
+use Rattle.rib_store.specs.declared.command.Refusal.TheVariants.{Exists, NotFound, PathsFull, TableFull, TargetsFull}
+use Rattle.rib_store.specs.declared.rib.TheConstants.{ROUTES_MAX, TARGETS_MAX}
 
 -- rows of prefix and paths, in prefix order, one row a prefix
 abbrev pub Table : Type 0
@@ -23,21 +28,86 @@ paths_at rows b = lookup (is_at (block_cmp b)) rows
 abbrev pub put_row : Table → Block → List WeightedHop → Table
 put_row rows b paths = insert_entry block_cmp rows b paths
 
+-- the table without the prefix's row
+abbrev pub drop_row : Table → Block → Table
+drop_row rows b = remove_entry (is_at (block_cmp b)) rows
+
+-- the rows that a flush leaves: those with no path by a gateway
+abbrev pub left_by_flush : Table → Table
+left_by_flush rows = filter (λ row. not (has_via row.1)) rows
+
+-- how many targets are live: the distinct nexthops of all paths, and the distinct lists of two paths or more
+abbrev pub live_count : Table → ℕ
+live_count rows = length (live_hops (values_of rows)) + length (live_groups (values_of rows))
+
 -- a table, and the reply to the command that made it
 pub record Outcome : Type 0 where
   pub table : Table
   pub reply : Reply
 
--- apply: an `add` of an absent prefix puts in a row of the one path. No other command may be asked yet; here the
--- table stays
-abbrev pub apply : {w : _} → Table → Command w → Outcome
-apply rows (Add prefix path) = record { table = put_row rows prefix (path ∷ []); reply = Added }
-apply rows command = record { table = rows; reply = Nothing }
+-- the command is refused, and the table stays
+abbrev pub refused : Table → Refusal → Outcome
+refused rows why = record { table = rows; reply = Refused why }
 
--- what may be asked of the table until every command is built: an `add` of an absent prefix, and few of them
-abbrev pub IsNewRoute : {w : _} → Table → Command w → Type 0
-IsNewRoute rows (Add prefix path) = (paths_at rows prefix ≡ None) × (length rows < ADDS_MAX)
-IsNewRoute rows command = ⊥
+-- the paths are the prefix's row, unless there would then be too many routes or too many live targets
+abbrev pub settled : ℕ → ℕ → Table → Block → List WeightedHop → Reply → Outcome
+settled routes live rows b paths reply =
+    if nat_lt routes (length (put_row rows b paths)) then refused rows TableFull
+    else if nat_lt live (live_count (put_row rows b paths)) then refused rows TargetsFull
+    else record { table = put_row rows b paths; reply = reply }
+
+-- the prefix's row is gone
+abbrev pub dropped : Table → Block → Outcome
+dropped rows b = record { table = drop_row rows b; reply = Deleted }
+
+-- `add`, where these are the paths of the prefix: a new row, or one path more in its place
+abbrev pub added : ℕ → ℕ → Table → Block → WeightedHop → Option (List WeightedHop) → Outcome
+added routes live rows b p None = settled routes live rows b (p ∷ []) Added
+added routes live rows b p (Some paths) =
+    if clashes paths p then refused rows Exists
+    else if nat_le 64 (length paths) then refused rows PathsFull
+    else settled routes live rows b (put_path paths p) Joined
+
+-- these paths in place of those of the prefix, where it has a row
+abbrev pub replaced : ℕ → ℕ → Table → Block → List WeightedHop → Reply → Option (List WeightedHop) → Outcome
+replaced routes live rows b paths reply None = refused rows NotFound
+replaced routes live rows b paths reply (Some old) = settled routes live rows b paths reply
+
+-- `change`: the one path in place of those before
+abbrev pub changed : ℕ → ℕ → Table → Block → WeightedHop → Option (List WeightedHop) → Outcome
+changed routes live rows b p None = refused rows NotFound
+changed routes live rows b p (Some paths) = settled routes live rows b (p ∷ []) Changed
+
+-- the paths that are left are the prefix's row, and the row is gone where none is left
+abbrev pub shortened : ℕ → ℕ → Table → Block → Option (List WeightedHop) → Outcome
+shortened routes live rows b None = dropped rows b
+shortened routes live rows b (Some paths) = settled routes live rows b paths Deleted
+
+-- `delete`: the whole row, or its paths by the gateway
+abbrev pub deleted : ℕ → ℕ → Table → Block → Option ℕ → Option (List WeightedHop) → Outcome
+deleted routes live rows b gateway None = refused rows NotFound
+deleted routes live rows b None (Some paths) = dropped rows b
+deleted routes live rows b (Some gateway) (Some paths) =
+    if list_any (goes_by gateway) paths then shortened routes live rows b (paths_left (left_by gateway paths))
+    else refused rows NotFound
+
+-- `flush`: every row that has a path by a gateway is gone, and the reply is their number
+abbrev pub flushed : Table → Outcome
+flushed rows = record { table = left_by_flush rows; reply = Flushed (length rows - length (left_by_flush rows)) }
+
+-- what a command does, with room for so many routes and so many live targets
+abbrev pub apply_within : {w : _} → ℕ → ℕ → Table → Command w → Outcome
+apply_within routes live rows (Add prefix path) = added routes live rows prefix path (paths_at rows prefix)
+apply_within routes live rows (Change prefix path) = changed routes live rows prefix path (paths_at rows prefix)
+apply_within routes live rows (Delete prefix gateway) = deleted routes live rows prefix gateway (paths_at rows prefix)
+apply_within routes live rows Flush = flushed rows
+apply_within routes live rows (Tick ms) = record { table = rows; reply = Nothing }
+apply_within routes live rows Sync = record { table = rows; reply = Nothing }
+apply_within routes live rows (Algo setting) = record { table = rows; reply = Nothing }
+
+-- apply: what a command does to the table, and the reply
+abbrev pub apply : {w : _} → Table → Command w → Outcome
+apply rows command = apply_within ROUTES_MAX TARGETS_MAX rows command
 
 -- the table after these commands
 abbrev pub table_of : {w : _} → List (Command w) → Table

@@ -1,38 +1,44 @@
-ghost use Rattle.std.specs.Prelude.{◌≡◌, ◌<◌, ◌≤◌, IfOk, OnOk, OnErr, [], length, slice_get, Some};
-ghost use Rattle.rib_store.specs.Table.{apply, IsNewRoute};
+ghost use Rattle.std.specs.Prelude.{◌≡◌, ◌<◌, ◌≤◌, IfOk, OnOk, OnErr, [], length, slice_get, Some, None, not, option_copied};
+ghost use Rattle.nhgrp_slots.specs.PathList.{has_via};
+ghost use Rattle.rib_store.specs.declared.command.Reply.TheVariants.{Added};
+ghost use Rattle.rib_store.specs.Table.{Table, apply, settled, added, changed, replaced, deleted, flushed, paths_at, drop_row, left_by_flush};
+ghost use Rattle.rib_store.specs.Targets.{live};
+ghost use Rattle.rib_store.specs.Uses.{IsRib};
 
 use crate::OutOfMemory;
-use crate::command::{Command, Reply};
-use nhgrp_slots::Paths;
-use prefix_width::Prefix;
+use crate::command::{Command, Refusal, Reply};
+use crate::links::Links;
+use nhgrp_slots::{Paths, Target};
+use prefix_width::{Addr, Path, Prefix};
 use std::alloc::Global;
 use std::collections::BTreeMap;
 use std::collections::btree_map::Iter;
 use std::marker::Model;
+use std::mem;
 
 /// How many routes a table may have.
 pub const ROUTES_MAX: u32 = 262_144;
 
-/// How many routes may be added until every command is built: as many changes as make a version
-/// each when they come at one moment (the first of a bucket in FreeBSD's `fib_algo.c`).
-pub const ADDS_MAX: u32 = 25;
+/// How many live targets a table may have: distinct nexthops and groups.
+pub const TARGETS_MAX: u32 = 2_047;
 
-/// The routes of a family, in the order of their prefixes.
+/// The routes of a family, in the order of their prefixes, with the counts of what they lead to.
 #[derive(Drop)]
 pub struct Rib<const W: u32> {
     routes: BTreeMap<Prefix<W>, Paths<W>>,
+    links: Links<W>,
 }
 
 impl<const W: u32> Model for Rib<W> {
-    ghost use Rattle.std.specs.Prelude.{◌≤◌, length};
-    ghost use Rattle.rib_store.specs.declared.rib.TheConstants.{ROUTES_MAX};
+    ghost use Rattle.rib_store.specs.declared.rib.TheConstants.{ROUTES_MAX, TARGETS_MAX};
     ghost use Rattle.rib_store.specs.Table.{Table};
+    ghost use Rattle.rib_store.specs.Uses.{IsRib};
 
     ghost Value = { Table };
 
     ghost view = { λ r. r.routes.entries };
 
-    ghost invariant = { λ r. length r.routes.entries ≤ ROUTES_MAX };
+    ghost invariant = { λ r. IsRib ROUTES_MAX TARGETS_MAX r.routes.entries r.links };
 }
 
 impl<const W: u32> Rib<W> {
@@ -42,29 +48,24 @@ impl<const W: u32> Rib<W> {
     {
         Rib {
             routes: BTreeMap::new(alloc),
+            links: Links::new(alloc),
         }
     }
 
-    /// Does what a command asks. Where memory is wanting, the table is as before.
+    /// Does what a command asks. A refusal and want of memory leave the table as it was.
     pub fn apply(&mut self, alloc: Global, command: &Command<W>) -> Result<Reply, OutOfMemory>
-        requires { IsNewRoute self.old command.now }
         ensures table { OnOk result (self.new ≡ (apply self.old command.now).table) }
         ensures reply { IfOk result (λ reply. reply ≡ (apply self.old command.now).reply) }
         ensures err { OnErr result (self.new ≡ self.old) }
     {
         match *command {
-            Command::Add { prefix, path } => {
-                let paths = Paths::one(alloc, path)?;
-                self.routes.insert(prefix, paths)?;
-                Ok(Reply::Added)
-            }
-            // No other command may be asked yet.
-            Command::Change { .. }
-            | Command::Delete { .. }
-            | Command::Flush
-            | Command::Tick { .. }
-            | Command::Sync
-            | Command::Algo { .. } => unreachable!(),
+            Command::Add { prefix, path } => self.add(alloc, prefix, path),
+            Command::Change { prefix, path } => self.change(alloc, prefix, path),
+            Command::Delete { prefix, gateway } => self.delete(alloc, prefix, gateway),
+            Command::Flush => Ok(self.flush()),
+            Command::Tick { ms: _ } => Ok(Reply::Nothing),
+            Command::Sync => Ok(Reply::Nothing),
+            Command::Algo { setting: _ } => Ok(Reply::Nothing),
         }
     }
 
@@ -74,6 +75,13 @@ impl<const W: u32> Rib<W> {
         ensures most { result ≤ ROUTES_MAX }
     {
         self.routes.len() as u32
+    }
+
+    /// The paths of a prefix's route. None where the prefix has no route.
+    pub fn get(&self, prefix: &Prefix<W>) -> Option<&Paths<W>>
+        ensures { option_copied result ≡ paths_at self.now prefix.now }
+    {
+        self.routes.get(prefix)
     }
 
     /// The route of a number, counted from 0 in prefix order.
@@ -88,9 +96,215 @@ impl<const W: u32> Rib<W> {
     }
 
     /// The routes in prefix order.
-    pub(crate) fn iter(&self) -> Iter<'_, Prefix<W>, Paths<W>>
+    pub fn iter(&self) -> Iter<'_, Prefix<W>, Paths<W>>
         ensures { result ≡ self.now }
     {
         self.routes.iter()
+    }
+
+    /// The live targets in their order: the distinct nexthops of all paths, then the distinct
+    /// groups.
+    pub fn targets(&self, alloc: Global) -> Result<Vec<Target<W>>, OutOfMemory>
+        ensures { IfOk result (λ v. v.items ≡ live self.now) }
+    {
+        let _live = self.links.live();
+        self.links.targets(alloc)
+    }
+
+    /// Puts the paths in as the route of a prefix that has none, unless a limit forbids it. The links
+    /// of the paths are made first and the row is put in last.
+    fn put_new(
+        &mut self,
+        alloc: Global,
+        prefix: Prefix<W>,
+        paths: Paths<W>,
+    ) -> Result<Reply, OutOfMemory>
+        requires { paths_at self.old prefix ≡ None }
+        ensures table { OnOk result (self.new ≡ (settled ROUTES_MAX TARGETS_MAX self.old prefix.entry paths.entry Added).table) }
+        ensures reply { IfOk result (λ r. r ≡ (settled ROUTES_MAX TARGETS_MAX self.old prefix.entry paths.entry Added).reply) }
+        ensures err { OnErr result (self.new ≡ self.old) }
+    {
+        let _list = paths.as_slice();
+        let _live = self.links.live();
+        if self.routes.len() >= ROUTES_MAX as usize {
+            return Ok(Reply::Refused(Refusal::TableFull));
+        }
+        if self.links.live_after(None, &paths) > TARGETS_MAX {
+            return Ok(Reply::Refused(Refusal::TargetsFull));
+        }
+        self.links.link(alloc, &paths)?;
+        match self.routes.insert(prefix, paths) {
+            Ok(None) => Ok(Reply::Added),
+            Ok(Some(_)) => unreachable!(),
+            Err(failed) => {
+                let (_prefix, paths) = failed.value;
+                self.links.unlink(&paths);
+                Err(OutOfMemory)
+            }
+        }
+    }
+
+    /// Adds a path to the prefix's route, or the route where there is none.
+    fn add(&mut self, alloc: Global, prefix: Prefix<W>, path: Path<W>) -> Result<Reply, OutOfMemory>
+        ensures table { OnOk result (self.new ≡ (added ROUTES_MAX TARGETS_MAX self.old prefix.entry path.entry (paths_at self.old prefix.entry)).table) }
+        ensures reply { IfOk result (λ r. r ≡ (added ROUTES_MAX TARGETS_MAX self.old prefix.entry path.entry (paths_at self.old prefix.entry)).reply) }
+        ensures err { OnErr result (self.new ≡ self.old) }
+    {
+        match self.routes.get(&prefix) {
+            None => {
+                let paths = Paths::one(alloc, path)?;
+                self.put_new(alloc, prefix, paths)
+            }
+            Some(present) => {
+                if present.clashes(&path) {
+                    return Ok(Reply::Refused(Refusal::Exists));
+                }
+                if present.len() >= 64 {
+                    return Ok(Reply::Refused(Refusal::PathsFull));
+                }
+                let paths = present.with(alloc, path)?;
+                replace(
+                    &mut self.routes,
+                    &mut self.links,
+                    alloc,
+                    &prefix,
+                    paths,
+                    Reply::Joined,
+                )
+            }
+        }
+    }
+
+    /// Puts one path in place of all paths of the prefix's route.
+    fn change(
+        &mut self,
+        alloc: Global,
+        prefix: Prefix<W>,
+        path: Path<W>,
+    ) -> Result<Reply, OutOfMemory>
+        ensures table { OnOk result (self.new ≡ (changed ROUTES_MAX TARGETS_MAX self.old prefix.entry path.entry (paths_at self.old prefix.entry)).table) }
+        ensures reply { IfOk result (λ r. r ≡ (changed ROUTES_MAX TARGETS_MAX self.old prefix.entry path.entry (paths_at self.old prefix.entry)).reply) }
+        ensures err { OnErr result (self.new ≡ self.old) }
+    {
+        let paths = Paths::one(alloc, path)?;
+        replace(
+            &mut self.routes,
+            &mut self.links,
+            alloc,
+            &prefix,
+            paths,
+            Reply::Changed,
+        )
+    }
+
+    /// Takes the prefix's route out, and its links.
+    fn drop_route(&mut self, prefix: &Prefix<W>)
+        ensures { self.new ≡ drop_row self.old prefix.now }
+    {
+        let _live = self.links.live();
+        if let Some(gone) = self.routes.remove(prefix) {
+            self.links.unlink(&gone);
+        }
+    }
+
+    /// Deletes the prefix's route or, where a gateway is given, its paths by that gateway.
+    fn delete(
+        &mut self,
+        alloc: Global,
+        prefix: Prefix<W>,
+        gateway: Option<Addr<W>>,
+    ) -> Result<Reply, OutOfMemory>
+        ensures table { OnOk result (self.new ≡ (deleted ROUTES_MAX TARGETS_MAX self.old prefix.entry gateway.entry (paths_at self.old prefix.entry)).table) }
+        ensures reply { IfOk result (λ r. r ≡ (deleted ROUTES_MAX TARGETS_MAX self.old prefix.entry gateway.entry (paths_at self.old prefix.entry)).reply) }
+        ensures err { OnErr result (self.new ≡ self.old) }
+    {
+        match self.routes.get(&prefix) {
+            None => Ok(Reply::Refused(Refusal::NotFound)),
+            Some(present) => match gateway {
+                None => {
+                    self.drop_route(&prefix);
+                    Ok(Reply::Deleted)
+                }
+                Some(gateway) => {
+                    if !present.goes_by(&gateway) {
+                        return Ok(Reply::Refused(Refusal::NotFound));
+                    }
+                    match present.without(alloc, &gateway)? {
+                        None => {
+                            self.drop_route(&prefix);
+                            Ok(Reply::Deleted)
+                        }
+                        Some(paths) => replace(
+                            &mut self.routes,
+                            &mut self.links,
+                            alloc,
+                            &prefix,
+                            paths,
+                            Reply::Deleted,
+                        ),
+                    }
+                }
+            },
+        }
+    }
+
+    /// Takes out every route that has a path by a gateway. No memory is taken.
+    fn flush(&mut self) -> Reply
+        ensures table { self.new ≡ (flushed self.old).table }
+        ensures reply { result ≡ (flushed self.old).reply }
+    {
+        let before = self.routes.len();
+        unlink_flushed(&mut self.links, &self.routes);
+        self.routes.retain(
+            |_prefix: &Prefix<W>, paths: &mut Paths<W>| -> bool
+                ensures kept { result ≡ not (has_via paths.old) }
+                ensures same { paths.new ≡ paths.old }
+            { !paths.has_via() },
+        );
+        Reply::Flushed((before - self.routes.len()) as u32)
+    }
+}
+
+/// Puts the paths in place of those of the prefix's route, unless there is no such route or there
+/// would be too many live targets. The links of the new paths are made first.
+fn replace<const W: u32>(
+    routes: &mut BTreeMap<Prefix<W>, Paths<W>>,
+    links: &mut Links<W>,
+    alloc: Global,
+    prefix: &Prefix<W>,
+    paths: Paths<W>,
+    reply: Reply,
+) -> Result<Reply, OutOfMemory>
+    requires { IsRib ROUTES_MAX TARGETS_MAX routes.old.entries links.old }
+    ensures rib { IsRib ROUTES_MAX TARGETS_MAX routes.new.entries links.new }
+    ensures table { OnOk result (routes.new.entries ≡ (replaced ROUTES_MAX TARGETS_MAX routes.old.entries prefix.now paths.entry reply (paths_at routes.old.entries prefix.now)).table) }
+    ensures reply { IfOk result (λ r. r ≡ (replaced ROUTES_MAX TARGETS_MAX routes.old.entries prefix.now paths.entry reply (paths_at routes.old.entries prefix.now)).reply) }
+    ensures err { OnErr result (routes.new.entries ≡ routes.old.entries) }
+{
+    let _list = paths.as_slice();
+    let _live = links.live();
+    let Some(present) = routes.get_mut(prefix) else {
+        return Ok(Reply::Refused(Refusal::NotFound));
+    };
+    if links.live_after(Some(&*present), &paths) > TARGETS_MAX {
+        return Ok(Reply::Refused(Refusal::TargetsFull));
+    }
+    links.link(alloc, &paths)?;
+    let old = mem::replace(present, paths);
+    links.unlink(&old);
+    Ok(reply)
+}
+
+/// Undoes the links of the routes that a flush takes out.
+fn unlink_flushed<const W: u32>(links: &mut Links<W>, routes: &BTreeMap<Prefix<W>, Paths<W>>)
+    requires { IsRib ROUTES_MAX TARGETS_MAX routes.now.entries links.old }
+    ensures { IsRib ROUTES_MAX TARGETS_MAX (left_by_flush routes.now.entries) links.new }
+{
+    let _live = links.live();
+    for (prefix, paths) in routes.iter() {
+        let _prefix = prefix;
+        if paths.has_via() {
+            links.unlink(paths);
+        }
     }
 }

@@ -1,122 +1,165 @@
-use crate::{Command, Plan, PushError, Reply, Rib};
-use prefix_width::{Addr, Kind, Nexthop, Path, Prefix, Setting};
+use crate::{Command, Refusal, Reply, Rib, Rows};
+use nhgrp_slots::Target;
+use prefix_width::{Addr, Nexthop, Path, Prefix};
 use std::test::Fail;
 
-fn via(gateway: u128) -> Option<Nexthop<32>> {
-    Some(Nexthop::via(Addr::new(gateway)?, 0, 0))
-}
+/// 10.0.0.0 and 192.0.2.0.
+const TEN: u128 = 0x0a00_0000;
 
-fn path(gateway: u128) -> Option<Path<32>> {
-    Path::new(via(gateway)?, 1)
-}
+const NET: u128 = 0xc000_0200;
 
 fn prefix(base: u128, len: u8) -> Option<Prefix<32>> {
     Prefix::masked(Addr::new(base)?, len)
 }
 
-fn add(base: u128, len: u8, gateway: u128) -> Option<Command<32>> {
-    let prefix = prefix(base, len)?;
-    let path = path(gateway)?;
-    Some(Command::Add { prefix, path })
+/// The nexthop by the host of 192.0.2.0/24, or the attached interface 1 where the host is 0.
+fn nexthop(host: u128) -> Option<Nexthop<32>> {
+    if host == 0 {
+        return Nexthop::direct(1, 0);
+    }
+    Some(Nexthop::via(Addr::new(NET | host)?, 0, 0))
+}
+
+/// An add of the prefix by the host.
+fn add(base: u128, len: u8, host: u128, weight: u32) -> Option<Command<32>> {
+    let path = Path::new(nexthop(host)?, weight)?;
+    Some(Command::Add {
+        prefix: prefix(base, len)?,
+        path,
+    })
+}
+
+/// A change of 10.0.0.0/8 to the host.
+fn change(host: u128) -> Option<Command<32>> {
+    let path = Path::new(nexthop(host)?, 1)?;
+    Some(Command::Change {
+        prefix: prefix(TEN, 8)?,
+        path,
+    })
+}
+
+/// A delete of 10.0.0.0/8, or of its paths by the gateway.
+fn delete(gateway: Option<u128>) -> Option<Command<32>> {
+    let prefix = prefix(TEN, 8)?;
+    let gateway = match gateway {
+        None => None,
+        Some(value) => Some(Addr::new(value)?),
+    };
+    Some(Command::Delete { prefix, gateway })
 }
 
 #[test]
-fn a_plan_keeps_its_commands_in_order(rt: HostRuntime) -> Result<(), Fail> {
-    let mut plan = Plan::<32>::new(rt.alloc());
-    let first = add(0x0a00_0000, 8, 1).ok_or("no command")?;
-    let second = add(0x0b00_0000, 8, 2).ok_or("no command")?;
-    plan.push(first)?;
-    plan.push(second)?;
-    assert_eq!(rt; plan.len(), 2);
-    assert_eq!(rt; *plan.command(0), first);
-    assert_eq!(rt; *plan.command(1), second);
-    Ok(())
-}
-
-#[test]
-fn nexthops_are_numbered_by_first_appearance(rt: HostRuntime) -> Result<(), Fail> {
-    let mut plan = Plan::<32>::new(rt.alloc());
-    let (one, two, three) = (
-        via(1).ok_or("no nexthop")?,
-        via(2).ok_or("no nexthop")?,
-        via(3).ok_or("no nexthop")?,
-    );
-    let ten = prefix(0x0a00_0000, 8).ok_or("no prefix")?;
-    let second = path(2).ok_or("no path")?;
-    let third = Addr::new(3).ok_or("no address")?;
-    plan.push(add(0x0a00_0000, 8, 1).ok_or("no command")?)?;
-    plan.push(Command::Change {
-        prefix: ten,
-        path: second,
-    })?;
-    plan.push(add(0x0b00_0000, 8, 1).ok_or("no command")?)?;
-    plan.push(Command::Flush)?;
-    plan.push(Command::Delete {
-        prefix: ten,
-        gateway: Some(third),
-    })?;
-    assert_eq!(rt; plan.len(), 5);
-    assert_eq!(rt; plan.nexthops(), 2);
-    assert_eq!(rt; plan.number_of(&one), Some(1));
-    assert_eq!(rt; plan.number_of(&two), Some(2));
-    assert_eq!(rt; plan.number_of(&three), None);
-    assert_eq!(rt; *plan.nexthop(2), two);
-    Ok(())
-}
-
-#[test]
-fn dxr_is_for_32_bits_alone(rt: HostRuntime) -> Result<(), Fail> {
-    let setting = Setting::Fixed(Kind::Dxr);
-    let mut inet = Plan::<32>::new(rt.alloc());
-    assert_eq!(rt; inet.push(Command::Algo { setting }), Ok(()));
-    assert_eq!(rt; inet.len(), 1);
-    let mut inet6 = Plan::<128>::new(rt.alloc());
-    assert_eq!(rt;
-        inet6.push(Command::Algo { setting }),
-        Err(PushError::WrongModule)
-    );
-    assert_eq!(rt; inet6.len(), 0);
-    let setting = Setting::Fixed(Kind::Radix);
-    assert_eq!(rt; inet6.push(Command::Algo { setting }), Ok(()));
-    Ok(())
-}
-
-// A /8 with a /16 inside it: the longer answers, whichever came first.
-#[test]
-fn the_longest_route_answers(rt: HostRuntime) -> Result<(), Fail> {
+fn a_route_is_added_changed_and_deleted(rt: HostRuntime) -> Result<(), Fail> {
     let alloc = rt.alloc();
     let mut rib = Rib::<32>::new(alloc);
-    let narrow = prefix(0x0a01_0000, 16).ok_or("no prefix")?;
-    let wide = prefix(0x0a00_0000, 8).ok_or("no prefix")?;
-    let inner = Command::Add {
-        prefix: narrow,
-        path: path(2).ok_or("no path")?,
-    };
-    let outer = Command::Add {
-        prefix: wide,
-        path: path(1).ok_or("no path")?,
-    };
-    assert_eq!(rt; rib.apply(alloc, &inner)?, Reply::Added);
-    assert!(rt; *rib.row(0).0 != wide);
-    assert_eq!(rt; rib.apply(alloc, &outer)?, Reply::Added);
-    assert_eq!(rt; rib.len(), 2);
-    assert_eq!(rt; *rib.row(0).0, wide);
-    for (value, gateway) in [
-        (0x09ff_ffff, None),
-        (0x0a00_0000, Some(1)),
-        (0x0a00_ffff, Some(1)),
-        (0x0a01_0000, Some(2)),
-        (0x0a01_ffff, Some(2)),
-        (0x0a02_0000, Some(1)),
-        (0x0b00_0000, None),
+    let missing = Reply::Refused(Refusal::NotFound);
+    for (command, reply) in [
+        (change(2), missing),
+        (add(TEN, 8, 1, 1), Reply::Added),
+        (add(0x0a09_0909, 8, 1, 5), Reply::Refused(Refusal::Exists)),
+        (change(2), Reply::Changed),
+        (change(2), Reply::Changed),
+        (delete(Some(NET | 1)), missing),
+        (Some(Command::Tick { ms: 7 }), Reply::Nothing),
+        (delete(Some(NET | 2)), Reply::Deleted),
+        (delete(None), missing),
+        (add(TEN, 8, 1, 1), Reply::Added),
+        (delete(None), Reply::Deleted),
+    ] {
+        let command = command.ok_or("no command")?;
+        assert_eq!(rt; rib.apply(alloc, &command)?, reply);
+    }
+    assert_eq!(rt; (rib.len(), rib.targets(alloc)?.len()), (0, 0));
+    Ok(())
+}
+
+#[test]
+fn flows_are_shared_by_weight(rt: HostRuntime) -> Result<(), Fail> {
+    let alloc = rt.alloc();
+    let mut rib = Rib::<32>::new(alloc);
+    for command in [
+        add(TEN, 8, 2, 3),
+        add(TEN, 8, 1, 1),
+        add(0x0a01_0000, 16, 3, 1),
+    ] {
+        rib.apply(alloc, &command.ok_or("no command")?)?;
+    }
+    let rows = rib.rows(alloc)?;
+    assert_eq!(rt; (rows.len(), Rows::<32>::new(alloc).len()), (2, 0));
+    for (value, flow, host) in [
+        (TEN, 0, 1),
+        (TEN, 1, 2),
+        (TEN, 2, 2),
+        (TEN, 3, 2),
+        (TEN, 4, 1),
+        (0x0a01_ffff, 0, 3),
+        (0x0a02_0000, 3, 2),
     ] {
         let addr = Addr::new(value).ok_or("no address")?;
-        let found = rib.answer(&addr);
         assert_eq!(rt;
-            found.map(|nexthop| nexthop.gateway().value()),
-            gateway,
-            "at {value}"
+            rows.answer(&addr, flow),
+            nexthop(host),
+            "at {value} {flow}"
         );
     }
+    let targets = rib.targets(alloc)?;
+    assert_eq!(rt; targets.len(), 4);
+    let first = nexthop(1).ok_or("no nexthop")?;
+    assert!(rt; targets[0] == Target::One(first));
+    Ok(())
+}
+
+#[test]
+fn a_route_has_64_paths_at_most(rt: HostRuntime) -> Result<(), Fail> {
+    let alloc = rt.alloc();
+    let mut rib = Rib::<32>::new(alloc);
+    for host in 1..66u32 {
+        let command = add(TEN, 8, u128::from(host), 1).ok_or("no command")?;
+        let want = match host {
+            1 => Reply::Added,
+            65 => Reply::Refused(Refusal::PathsFull),
+            _ => Reply::Joined,
+        };
+        assert_eq!(rt; rib.apply(alloc, &command)?, want, "at {host}");
+    }
+    Ok(())
+}
+
+#[test]
+fn a_flush_keeps_what_goes_by_no_gateway(rt: HostRuntime) -> Result<(), Fail> {
+    let alloc = rt.alloc();
+    let mut rib = Rib::<32>::new(alloc);
+    for (command, reply) in [
+        (add(0, 0, 0, 1), Reply::Added),
+        (add(TEN, 8, 1, 1), Reply::Added),
+        (add(TEN, 8, 0, 1), Reply::Joined),
+        (Some(Command::Flush), Reply::Flushed(1)),
+        (delete(None), Reply::Refused(Refusal::NotFound)),
+    ] {
+        let command = command.ok_or("no command")?;
+        assert_eq!(rt; rib.apply(alloc, &command)?, reply);
+    }
+    let default = prefix(0, 0).ok_or("no prefix")?;
+    assert!(rt; rib.get(&default).is_some());
+    assert_eq!(rt; rib.len(), 1);
+    Ok(())
+}
+
+#[test]
+fn a_table_has_262144_routes_at_most(rt: HostRuntime) -> Result<(), Fail> {
+    let alloc = rt.alloc();
+    let mut rib = Rib::<32>::new(alloc);
+    for host in 0..262_144u32 {
+        let command = add(u128::from(host), 32, 1, 1).ok_or("no command")?;
+        assert_eq!(rt; rib.apply(alloc, &command)?, Reply::Added, "at {host}");
+    }
+    for (command, reply) in [
+        (add(262_144, 32, 1, 1), Reply::Refused(Refusal::TableFull)),
+        (add(0, 32, 2, 1), Reply::Joined),
+    ] {
+        let command = command.ok_or("no command")?;
+        assert_eq!(rt; rib.apply(alloc, &command)?, reply);
+    }
+    assert_eq!(rt; rib.len(), 262_144);
     Ok(())
 }

@@ -4,10 +4,12 @@ use Rattle.std.specs.Io.KnownBytes.{Appends}
 use Rattle.outside_io.specs.Faults.{Rose}
 use Rattle.outside_io.specs.Whole.{ReadsAll, ReadsPast, WritesFront}
 use Rattle.route_lang.specs.declared.fault.Reason.{Reason}
-use Rattle.route_lang.specs.declared.fault.Reason.TheVariants.{TooLarge}
+use Rattle.route_lang.specs.declared.fault.Reason.TheVariants as reason
 use Rattle.route_lang.specs.declared.script.TheConstants.{INPUT_MAX}
 use Rattle.route_cli.specs.Result.{result_of}
 use Rattle.route_cli.specs.declared.job.Job.{Job}
+use Rattle.route_cli.specs.declared.job.Task.{Task}
+use Rattle.route_cli.specs.declared.job.Task.TheVariants.{NotTaken, NotBuilt, Does}
 use Rattle.route_cli.specs.declared.status.Status.{Status}
 use Rattle.route_cli.specs.declared.status.Status.TheVariants as status
 
@@ -41,8 +43,8 @@ pub record RefusedAt (job : Job) (left rest : Option (List ℕ)) (line : ℕ) (r
   pub result : result_of job bytes ≡ Err (record { line = line; reason = reason })
 
 abbrev pub is_too_large : Reason → Bool
-is_too_large TooLarge = true
-is_too_large reason = false
+is_too_large reason.TooLarge = true
+is_too_large why = false
 
 abbrev pub RefusedBy : Bool → Job → Option (List ℕ) → Option (List ℕ) → ℕ → Reason → Type 0
 RefusedBy true job left rest line reason = (line ≡ 0) × ReadsPast INPUT_MAX left rest
@@ -59,3 +61,27 @@ IsComplete job left read_before read_now write_before write_now result =
     (bytes text : List ℕ) → left ≡ Some bytes → length bytes ≤ INPUT_MAX → result_of job bytes ≡ Ok text
     → ¬ (Rose read_before read_now) → ¬ (Rose write_before write_now)
     → (result ≡ status.Ok) ⊎ (result ≡ status.OutOfMemory)
+
+-- ---- by what the words ask
+
+-- the words ask for a job, of which this holds
+abbrev pub OfJob : Task → (Job → Type 0) → Type 0
+OfJob NotTaken Holds = ⊥
+OfJob NotBuilt Holds = ⊥
+OfJob (Does job) Holds = Holds job
+
+-- a refusal of what the words ask: line 0 where it is not built, else as the job refuses
+abbrev pub RefusesTask : Task → Option (List ℕ) → Option (List ℕ) → ℕ → Reason → Type 0
+RefusesTask NotTaken left rest line why = ⊥
+RefusesTask NotBuilt left rest line why = (line ≡ 0) × (why ≡ reason.NotBuilt)
+RefusesTask (Does job) left rest line why = Refuses job left rest line why
+
+-- Completeness by what the words ask: words that are not taken, and what is not built, are told as such, unless memory
+-- is wanting.
+abbrev pub IsTaskComplete : Task → Option (List ℕ) → ℕ → ℕ → ℕ → ℕ → Status → Type 0
+IsTaskComplete NotTaken left read_before read_now write_before write_now result =
+    (result ≡ status.Usage) ⊎ (result ≡ status.OutOfMemory)
+IsTaskComplete NotBuilt left read_before read_now write_before write_now result =
+    (result ≡ status.ScriptRefused 0 reason.NotBuilt) ⊎ (result ≡ status.OutOfMemory)
+IsTaskComplete (Does job) left read_before read_now write_before write_now result =
+    IsComplete job left read_before read_now write_before write_now result

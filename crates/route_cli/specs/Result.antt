@@ -1,21 +1,30 @@
 -- The result of a job on the bytes that were read.
-use Rattle.std.specs.Prelude.{◌≡◌, ℕ, List, Result, Ok, Err}
+use Rattle.std.specs.Prelude.{◌≡◌, ℕ, List, length, Result, Ok, Err}
 use Rattle.route_lang.specs.declared.fault.LineFault.{LineFault}
 use Rattle.route_lang.specs.declared.fault.ScriptError.{ScriptError}
 use Rattle.route_lang.specs.declared.fault.ScriptError.TheVariants as script_error
-use Rattle.route_lang.specs.AddsScript.{Reading, script_of}
-use Rattle.route_cli.specs.Output.{output_of}
+use Rattle.route_lang.specs.Script.{Reading, script_of}
+use Rattle.route_lang.specs.Spelling.{spelled}
+use Rattle.route_lang.specs.Text.{lines_of}
+use Rattle.replay_run.specs.Output.{serial_output}
+use Rattle.replay_run.specs.Text.{checked_text}
 use Rattle.route_cli.specs.declared.job.Job.{Job}
-use Rattle.route_cli.specs.declared.job.Job.TheVariants.{Replay}
+use Rattle.route_cli.specs.declared.job.Job.TheVariants.{Replay, Check, Show}
 
--- the output of a script, or its fault
-abbrev pub replayed : Result Reading LineFault → Result (List ℕ) LineFault
-replayed (Ok script) = Ok (output_of script)
-replayed (Err fault) = Err fault
+-- what a job makes of a script whose text has so many lines
+abbrev pub text_of : Job → ℕ → Reading → List ℕ
+text_of Replay lines script = serial_output script
+text_of Check lines script = checked_text script lines
+text_of Show lines script = spelled script
+
+-- the text of a script, or its fault
+abbrev pub text_or_fault : Job → ℕ → Result Reading LineFault → Result (List ℕ) LineFault
+text_or_fault job lines (Ok script) = Ok (text_of job lines script)
+text_or_fault job lines (Err fault) = Err fault
 
 -- what the job makes of the bytes: a text, or the first line that is refused
 abbrev pub result_of : Job → List ℕ → Result (List ℕ) LineFault
-result_of Replay bytes = replayed (script_of bytes)
+result_of job bytes = text_or_fault job (length (lines_of bytes)) (script_of bytes)
 
 module _ {V : Type 0} (bytes_of : V → List ℕ) where
   -- what is answered is the result, with its text seen as bytes, unless memory is wanting

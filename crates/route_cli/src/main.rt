@@ -3,19 +3,13 @@
 //! The program is the one call [`run`](top::run) over standard input and standard output.
 #![tactic(auto)]
 
-mod gate;
 mod job;
-mod laws;
-mod output;
-mod serial;
 mod status;
 mod top;
-mod words;
 
-pub use gate::{Gate, OpenGate};
-pub use job::Job;
-pub use laws::law_packets;
+pub use job::{Job, Task};
 use outside_io::{StdSink, StdSource};
+use replay_run::OpenGate;
 pub use status::{Status, fault_text};
 pub use std::alloc::AllocError as OutOfMemory;
 use std::process::ExitCode;
@@ -25,6 +19,8 @@ pub use top::{plain, run};
 
 #[cfg(test)]
 mod tests;
+#[cfg(test)]
+mod version_tests;
 
 fn main(rt: HostRuntime) -> ExitCode {
     let status = run_on_standard_streams(&rt);

@@ -1,73 +1,147 @@
-use crate::{Job, OpenGate, Status, fault_text, plain, run};
+use crate::{Job, Status, fault_text, plain, run};
 use outside_io::{MemSink, MemSource};
+use replay_run::OpenGate;
 use route_lang::Reason;
 use std::alloc::Global;
 use std::test::Fail;
 
-const FIRST_PATH: &str = "\
+const USUAL_TABLE: &str = "\
 add default 192.0.2.1
-add 10.0.0.0/8 192.0.2.2
-get 10.255.255.255
-get 11.0.0.0
+add -net 198.51.100.0/24 192.0.2.2
+add -net 10.1.0.0/16 192.0.2.3 -mtu 1400
+add -host 198.51.100.7 192.0.2.4 -if 3
+get 198.51.100.7
+get 198.51.100.8
+get 10.1.255.255
+get 10.2.0.0
 ";
 
-const FIRST_PATH_OUTPUT: &str = "\
+const USUAL_TABLE_OUTPUT: &str = "\
 1 added
-2 added
-3 10.255.255.255 version 2 via 192.0.2.2 if 0 mtu 0
-4 11.0.0.0 version 2 via 192.0.2.1 if 0 mtu 0
-packets inet 1 via 192.0.2.1 if 0 mtu 0
-packets inet 1 via 192.0.2.2 if 0 mtu 0
-fib inet version 2 routes 2 algo range
-fib inet6 version 0 routes 0 algo range
-";
-
-const NESTED_PREFIXES: &str = "\
-# nested prefixes
-add 10.0.0.0/8 192.0.2.1
-add\t10.1.0.0/16  192.0.2.2\r
- add 10.1.2.9/24 192.0.2.3
-
-get 9.255.255.255
-get 10.0.255.255
-get 10.1.3.0
-get 10.1.2.255
-get 10.1.1.255
-";
-
-const NESTED_PREFIXES_OUTPUT: &str = "\
 2 added
 3 added
 4 added
-6 9.255.255.255 version 3 none
-7 10.0.255.255 version 3 via 192.0.2.1 if 0 mtu 0
-8 10.1.3.0 version 3 via 192.0.2.2 if 0 mtu 0
-9 10.1.2.255 version 3 via 192.0.2.3 if 0 mtu 0
-10 10.1.1.255 version 3 via 192.0.2.2 if 0 mtu 0
+5 198.51.100.7 version 4 via 192.0.2.4 if 3 mtu 0
+6 198.51.100.8 version 4 via 192.0.2.2 if 0 mtu 0
+7 10.1.255.255 version 4 via 192.0.2.3 if 0 mtu 1400
+8 10.2.0.0 version 4 via 192.0.2.1 if 0 mtu 0
 packets inet 1 via 192.0.2.1 if 0 mtu 0
-packets inet 2 via 192.0.2.2 if 0 mtu 0
-packets inet 1 via 192.0.2.3 if 0 mtu 0
-fib inet version 3 routes 3 algo range
+packets inet 1 via 192.0.2.2 if 0 mtu 0
+packets inet 1 via 192.0.2.3 if 0 mtu 1400
+packets inet 1 via 192.0.2.4 if 3 mtu 0
+fib inet version 4 routes 4 algo range
 fib inet6 version 0 routes 0 algo range
 ";
 
-// A get sees the commands before it, and no later one.
-const GETS_BETWEEN: &str = "\
-get 10.0.0.1
+// Both families, with the words that route(8) takes before its commands.
+const EDGE_ROUTER: &str = "\
+# edge router
+route -q add default 203.0.113.1
+route add -net 192.0.2.0/24 -if 1
+route add -net 198.51.100.0/24 192.0.2.10 -weight 1
+route add -net 198.51.100.0/24 192.0.2.11 -weight 1
+route add -net 10.0.0.0/8 127.0.0.1 -blackhole
+route add -inet6 default fe80::1 -if 2
+route add -inet6 2001:db8::/32 ::1 -reject
+route get 198.51.100.20 flow 7
+route get 10.9.8.7
+route get -inet6 2001:db8::5
+route get -inet6 2001:db9::1
+";
+
+const EDGE_ROUTER_OUTPUT: &str = "\
+2 added
+3 added
+4 added
+5 joined
+6 added
+7 added
+8 added
+9 198.51.100.20 version 5 via 192.0.2.11 if 0 mtu 0
+10 10.9.8.7 version 5 blackhole
+11 2001:db8::5 version 2 reject
+12 2001:db9::1 version 2 via fe80::1 if 2 mtu 0
+packets inet 1 via 192.0.2.11 if 0 mtu 0
+packets inet 1 blackhole
+packets inet6 1 via fe80::1 if 2 mtu 0
+packets inet6 1 reject
+fib inet version 5 routes 4 algo range
+fib inet6 version 2 routes 2 algo range
+";
+
+// A get sees the versions before it, and no later one.
+const FIVE_CHANGES: &str = "\
 add 10.0.0.0/8 192.0.2.1
 get 10.0.0.1
-add 10.0.0.1 192.0.2.2
-get 10.0.0.1";
+change 10.0.0.0/8 192.0.2.2
+get 10.0.0.1
+change 10.0.0.0/8 192.0.2.3
+get 10.0.0.1
+change 10.0.0.0/8 192.0.2.4
+get 10.0.0.1
+change 10.0.0.0/8 192.0.2.5
+get 10.0.0.1
+";
 
-const GETS_BETWEEN_OUTPUT: &str = "\
-1 10.0.0.1 version 0 none
-2 added
-3 10.0.0.1 version 1 via 192.0.2.1 if 0 mtu 0
-4 added
-5 10.0.0.1 version 2 via 192.0.2.2 if 0 mtu 0
+const FIVE_CHANGES_OUTPUT: &str = "\
+1 added
+2 10.0.0.1 version 1 via 192.0.2.1 if 0 mtu 0
+3 changed
+4 10.0.0.1 version 2 via 192.0.2.2 if 0 mtu 0
+5 changed
+6 10.0.0.1 version 3 via 192.0.2.3 if 0 mtu 0
+7 changed
+8 10.0.0.1 version 4 via 192.0.2.4 if 0 mtu 0
+9 changed
+10 10.0.0.1 version 5 via 192.0.2.5 if 0 mtu 0
 packets inet 1 via 192.0.2.1 if 0 mtu 0
 packets inet 1 via 192.0.2.2 if 0 mtu 0
-fib inet version 2 routes 2 algo range
+packets inet 1 via 192.0.2.3 if 0 mtu 0
+packets inet 1 via 192.0.2.4 if 0 mtu 0
+packets inet 1 via 192.0.2.5 if 0 mtu 0
+fib inet version 5 routes 1 algo range
+fib inet6 version 0 routes 0 algo range
+";
+
+const TWO_FLUSHES: &str = "\
+add default -if 1
+add 10.0.0.0/8 192.0.2.1
+add -inet6 default 2001:db8::1
+flush
+flush
+";
+
+const TWO_FLUSHES_OUTPUT: &str = "\
+1 added
+2 added
+3 added
+4 flushed 2
+5 flushed 0
+fib inet version 3 routes 1 algo range
+fib inet6 version 2 routes 0 algo range
+";
+
+const WEIGHTED_GROUP: &str = "\
+add 10.0.0.0/8 192.0.2.1 -weight 1
+add 10.0.0.0/8 192.0.2.2 -weight 3
+get 10.0.0.1 flow 0
+get 10.0.0.1 flow 1
+get 10.0.0.1 flow 2
+get 10.0.0.1 flow 3
+get 10.0.0.1 flow 4
+";
+
+const WEIGHTED_GROUP_OUTPUT: &str = "\
+1 added
+2 joined
+3 10.0.0.1 version 2 via 192.0.2.1 if 0 mtu 0
+4 10.0.0.1 version 2 via 192.0.2.2 if 0 mtu 0
+5 10.0.0.1 version 2 via 192.0.2.2 if 0 mtu 0
+6 10.0.0.1 version 2 via 192.0.2.2 if 0 mtu 0
+7 10.0.0.1 version 2 via 192.0.2.1 if 0 mtu 0
+packets inet 2 via 192.0.2.1 if 0 mtu 0
+packets inet 3 via 192.0.2.2 if 0 mtu 0
+fib inet version 2 routes 1 algo range
 fib inet6 version 0 routes 0 algo range
 ";
 
@@ -76,7 +150,9 @@ fib inet version 0 routes 0 algo range
 fib inet6 version 0 routes 0 algo range
 ";
 
-const OTHER_WORDS: [&str; 5] = ["", "play", "Replay", "replay replay", "replay --workers 65"];
+const NOT_TAKEN: [&str; 5] = ["", "play", "Replay", "replay replay", "replay --workers 65"];
+
+const NOT_BUILT: [&str; 3] = ["gen", "gen --count 1", "replay --workers 2"];
 
 fn words(alloc: Global, line: &str) -> Result<Vec<String>, Fail> {
     let mut words = Vec::new(alloc);
@@ -94,37 +170,70 @@ fn source(alloc: Global, text: &str, fails: &[u32]) -> Result<MemSource, Fail> {
 #[test]
 fn scripts_are_replayed(rt: HostRuntime) -> Result<(), Fail> {
     let alloc = rt.alloc();
-    let words = words(alloc, "replay")?;
-    let refused = |line: u32| Status::ScriptRefused {
-        line,
-        reason: Reason::NotBuilt,
-    };
-    for (script, status, output) in [
-        ("", Status::Ok, NO_ROUTES),
-        (FIRST_PATH, Status::Ok, FIRST_PATH_OUTPUT),
-        (NESTED_PREFIXES, Status::Ok, NESTED_PREFIXES_OUTPUT),
-        (GETS_BETWEEN, Status::Ok, GETS_BETWEEN_OUTPUT),
-        ("add 10.0.0.0/8 192.0.2.1\nflush\n", refused(2), ""),
+    let words = words(alloc, "replay --seed 7")?;
+    for (script, output) in [
+        ("", NO_ROUTES),
+        (USUAL_TABLE, USUAL_TABLE_OUTPUT),
+        (EDGE_ROUTER, EDGE_ROUTER_OUTPUT),
+        (FIVE_CHANGES, FIVE_CHANGES_OUTPUT),
+        (TWO_FLUSHES, TWO_FLUSHES_OUTPUT),
+        (WEIGHTED_GROUP, WEIGHTED_GROUP_OUTPUT),
     ] {
         let mut source = source(alloc, script, &[])?;
         let mut sink = MemSink::new(alloc, 1000, 10, Vec::new(alloc))?;
         let ended = run(&rt, words.as_slice(), &mut source, &mut sink, &OpenGate);
-        assert_eq!(rt; ended, status, "of {script}");
+        assert_eq!(rt; ended, Status::Ok, "of {script}");
         assert_eq!(rt; sink.bytes(), output.as_bytes(), "of {script}");
     }
     Ok(())
 }
 
 #[test]
-fn other_words_are_not_taken(rt: HostRuntime) -> Result<(), Fail> {
+fn scripts_are_checked_and_shown(rt: HostRuntime) -> Result<(), Fail> {
     let alloc = rt.alloc();
-    for line in OTHER_WORDS {
-        let words = words(alloc, line)?;
-        let mut source = source(alloc, FIRST_PATH, &[])?;
+    for (job, script, output) in [
+        (Job::Check, "", "ok 0 lines 0 commands\n"),
+        (Job::Check, EDGE_ROUTER, "ok 12 lines 11 commands\n"),
+        (Job::Show, "", ""),
+        (
+            Job::Show,
+            "route add -net 10.9.0.1/16 192.0.2.1 -weight 1\n",
+            "add -inet 10.9.0.0/16 192.0.2.1\n",
+        ),
+        (
+            Job::Show,
+            "# an address in full\nget  -inet6 0:0:0:0:0:0:0:1  flow 0",
+            "get -inet6 ::1\n",
+        ),
+    ] {
+        let mut source = source(alloc, script, &[])?;
         let mut sink = MemSink::new(alloc, 1000, 10, Vec::new(alloc))?;
-        let ended = run(&rt, words.as_slice(), &mut source, &mut sink, &OpenGate);
-        assert_eq!(rt; ended, Status::Usage);
-        assert!(rt; sink.bytes().is_empty());
+        let ended = plain(alloc, job, &mut source, &mut sink);
+        assert_eq!(rt; ended, Status::Ok, "of {script}");
+        assert_eq!(rt; sink.bytes(), output.as_bytes(), "of {script}");
+    }
+    Ok(())
+}
+
+#[test]
+fn other_words_are_not_taken_or_not_built(rt: HostRuntime) -> Result<(), Fail> {
+    let alloc = rt.alloc();
+    let not_built = Status::ScriptRefused {
+        line: 0,
+        reason: Reason::NotBuilt,
+    };
+    for (lines, status) in [
+        (NOT_TAKEN.as_slice(), Status::Usage),
+        (NOT_BUILT.as_slice(), not_built),
+    ] {
+        for line in lines {
+            let words = words(alloc, line)?;
+            let mut source = source(alloc, USUAL_TABLE, &[])?;
+            let mut sink = MemSink::new(alloc, 1000, 10, Vec::new(alloc))?;
+            let ended = run(&rt, words.as_slice(), &mut source, &mut sink, &OpenGate);
+            assert_eq!(rt; ended, status, "of {line}");
+            assert!(rt; sink.bytes().is_empty());
+        }
     }
     Ok(())
 }
@@ -138,10 +247,10 @@ fn a_failing_read_and_a_failing_write_are_told(rt: HostRuntime) -> Result<(), Fa
             [].as_slice(),
             [3].as_slice(),
             Status::WriteFault,
-            "1 added\n2 added\n3 10",
+            "1 added\n2 added\n3 ad",
         ),
     ] {
-        let mut source = source(alloc, FIRST_PATH, reads)?;
+        let mut source = source(alloc, USUAL_TABLE, reads)?;
         let fails = Vec::from_slice(alloc, writes)?;
         let mut sink = MemSink::new(alloc, 1000, 10, fails)?;
         let ended = plain(alloc, Job::Replay, &mut source, &mut sink);
@@ -157,7 +266,7 @@ fn input_past_the_limit_is_refused(rt: HostRuntime) -> Result<(), Fail> {
     let alloc = rt.alloc();
     for (len, line, reason) in [
         (67_108_865, 0, Reason::TooLarge),
-        (67_108_864, 1, Reason::NotBuilt),
+        (67_108_864, 1, Reason::LineTooLong),
     ] {
         let bytes = vec![in alloc; b'#'; len]?;
         let mut source = MemSource::new(bytes, 1_000_000, Vec::new(alloc));
@@ -176,9 +285,9 @@ fn each_fault_has_its_line_and_number(rt: HostRuntime) -> Result<(), Fail> {
     for (status, code, text) in [
         (Status::Ok, 0, ""),
         (
-            refused(3, Reason::NotBuilt),
+            refused(3, Reason::BadAddress),
             1,
-            "fibrun: line 3: not built\n",
+            "fibrun: line 3: bad address\n",
         ),
         (
             refused(0, Reason::TooLarge),

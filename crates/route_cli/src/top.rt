@@ -1,17 +1,17 @@
-ghost use Rattle.std.specs.Prelude.{◌≡◌, ◌≢◌, ◌↔◌, ◌≤◌, false, true, map, string_bytes};
+ghost use Rattle.std.specs.Prelude.{◌≡◌, ◌≢◌, ◌≤◌, IfOk, length, map, string_bytes};
 ghost use Rattle.outside_io.specs.Faults.{Rose};
-ghost use Rattle.route_cli.specs.Words.{takes_words};
+ghost use Rattle.route_cli.specs.Words.{task_of};
 ghost use Rattle.route_cli.specs.Result.{result_of, GivesResultBy};
-ghost use Rattle.route_cli.specs.Cause.{Answered, Interrupted, Refuses, IsComplete};
-ghost use Rattle.route_cli.specs.declared.job.Job.TheVariants.{Replay};
+ghost use Rattle.route_cli.specs.Cause.{Answered, Interrupted, Refuses, IsComplete, OfJob, RefusesTask, IsTaskComplete};
+ghost use Rattle.route_cli.specs.declared.job.Task.TheVariants.{NotTaken};
 
-use crate::gate::Gate;
-use crate::job::Job;
-use crate::serial::serial;
+use crate::OutOfMemory;
+use crate::job::{Job, Task};
 use crate::status::Status;
-use crate::words::takes;
+use command_line::{WordsError, read_words};
 use outside_io::{ReadError, Sink, Source, read_all, write_all};
-use route_lang::{INPUT_MAX, Reason, ScriptError, read_adds};
+use replay_run::{Gate, check_text, serial, show_text};
+use route_lang::{INPUT_MAX, Reason, ScriptError, line_count, read_script};
 use std::alloc::Global;
 
 /// All that the program does: it reads the words, then the source, then the script in it, does
@@ -25,17 +25,17 @@ pub fn run<R: AllocGlobal, S: Source, K: Sink, G: Gate + Sync>(
     _gate: &G,
 ) -> Status
     // Words that are not taken: nothing is read or written.
-    ensures usage { (result ≡ Status.Usage) ↔ (takes_words (map string_bytes words.now) ≡ false) }
-    ensures usage_reads_nothing { result ≡ Status.Usage → source.new ≡ source.old }
+    ensures usage { result ≡ Status.Usage → task_of (map string_bytes words.now) ≡ NotTaken }
+    ensures reads_for_a_job { ¬ (OfJob (task_of (map string_bytes words.now)) (λ _. Unit {0})) → source.new ≡ source.old }
 
     // The whole result of the bytes that were read.
-    ensures ok { result ≡ Status.Ok → Answered Replay (S.left source.old) (S.left source.new) (K.written sink.old) (K.written sink.new) }
+    ensures ok { result ≡ Status.Ok → OfJob (task_of (map string_bytes words.now)) (λ job. Answered job (S.left source.old) (S.left source.new) (K.written sink.old) (K.written sink.new)) }
 
     // When each fault comes.
     ensures read { result ≡ Status.ReadFault → Rose (S.faults source.old) (S.faults source.new) }
-    ensures refused { (line : _) (reason : _) → result ≡ Status.ScriptRefused line reason → Refuses Replay (S.left source.old) (S.left source.new) line reason }
+    ensures refused { (line : _) (reason : _) → result ≡ Status.ScriptRefused line reason → RefusesTask (task_of (map string_bytes words.now)) (S.left source.old) (S.left source.new) line reason }
     ensures write { result ≡ Status.WriteFault → Rose (K.faults sink.old) (K.faults sink.new) }
-    ensures interrupted { result ≡ Status.WriteFault → Interrupted Replay (S.left source.old) (S.left source.new) (K.written sink.old) (K.written sink.new) }
+    ensures interrupted { result ≡ Status.WriteFault → OfJob (task_of (map string_bytes words.now)) (λ job. Interrupted job (S.left source.old) (S.left source.new) (K.written sink.old) (K.written sink.new)) }
 
     // Nothing is written before the result is whole.
     ensures untouched { result ≢ Status.Ok → result ≢ Status.WriteFault → sink.new ≡ sink.old }
@@ -43,12 +43,28 @@ pub fn run<R: AllocGlobal, S: Source, K: Sink, G: Gate + Sync>(
     ensures sink_later { K.faults sink.old ≤ K.faults sink.new }
 
     // Words that are taken, a script within the limit and no fault: Ok, or want of memory.
-    ensures complete { takes_words (map string_bytes words.now) ≡ true → IsComplete Replay (S.left source.old) (S.faults source.old) (S.faults source.new) (K.faults sink.old) (K.faults sink.new) result }
+    ensures complete { IsTaskComplete (task_of (map string_bytes words.now)) (S.left source.old) (S.faults source.old) (S.faults source.new) (K.faults sink.old) (K.faults sink.new) result }
 {
-    if !takes(words) {
-        return Status::Usage;
+    match read_task(rt.alloc(), words) {
+        Ok(Task::Does(job)) => plain(rt.alloc(), job, source, sink),
+        Ok(Task::NotBuilt) => Status::ScriptRefused {
+            line: 0,
+            reason: Reason::NotBuilt,
+        },
+        Ok(Task::NotTaken) => Status::Usage,
+        Err(_) => Status::OutOfMemory,
     }
-    plain(rt.alloc(), Job::Replay, source, sink)
+}
+
+/// What the words ask.
+fn read_task(alloc: Global, words: &[String]) -> Result<Task, OutOfMemory>
+    ensures { IfOk result (λ task. task ≡ task_of (map string_bytes words.now)) }
+{
+    match read_words(alloc, words) {
+        Ok(request) => Ok(Task::of(&request)),
+        Err(WordsError::Usage) => Ok(Task::NotTaken),
+        Err(WordsError::OutOfMemory) => Err(OutOfMemory),
+    }
 }
 
 /// Does a job that waits for nobody: reads the source to its end, and writes the result of its
@@ -118,13 +134,14 @@ fn read_and_write<S: Source, K: Sink>(
 
 /// What the job makes of the bytes.
 fn result_text(alloc: Global, job: Job, bytes: &[u8]) -> Result<Vec<u8>, ScriptError>
+    requires { length bytes.now ≤ INPUT_MAX }
     ensures { GivesResultBy (λ text. text.items) result (result_of job bytes.now) }
 {
-    match job {
-        Job::Replay => {
-            let script = read_adds(alloc, bytes)?;
-            let text = serial(alloc, &script)?;
-            Ok(text)
-        }
-    }
+    let script = read_script(alloc, bytes)?;
+    let text = match job {
+        Job::Replay => serial(alloc, &script),
+        Job::Check => check_text(alloc, &script, line_count(bytes) as u32),
+        Job::Show => show_text(alloc, &script),
+    }?;
+    Ok(text)
 }

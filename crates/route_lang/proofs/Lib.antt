@@ -1,4 +1,13 @@
-pub mod AddsLemmas
+pub mod AddressWordLemmas
+pub mod AskedLemmas
+pub mod BoundLemmas
+pub mod CommandLemmas
+pub mod FitsLemmas
+pub mod LengthLemmas
+pub mod ReadBackLemmas
 pub mod ReadingLemmas
+pub mod ReasonLemmas
+pub mod SpellingLemmas
 pub mod TextLemmas
 pub mod WalkLemmas
+pub mod WordsLemmas

@@ -1,5 +1,5 @@
 -- Where the first line and the first word of a text end.
-use Rattle.std.proofs.Common.{◌≡◌, ℕ, zero, suc, ◌+◌, ◌-◌, ◌<◌, Bool, true, false, not, cond, List, [], ◌∷◌, Some, None, length, take, drop, filter, get_or, refl, arith, add-one, lt-ltb}
+use Rattle.std.proofs.Common.{◌≡◌, ℕ, zero, suc, ◌+◌, ◌-◌, ◌<◌, ◌≤◌, Bool, true, false, not, cond, List, [], ◌∷◌, Some, None, length, take, drop, filter, get_or, refl, arith, add-one, lt-ltb}
 use Rattle.std.specs.List.{onto_first, position_from, slice_split}
 use Rattle.std.proofs.lemmas.Bool.{both_ways}
 use Rattle.std.proofs.lemmas.List.{length-drop, length-take}
@@ -36,6 +36,16 @@ last_on false k b (c ∷ bs) later e = rw (later e (omega arith)) refl
 pub last_line : (k : ℕ) (bs : List ℕ) → position_from is_feed k bs ≡ None → 0 < length bs → lines_of bs ≡ bs ∷ []
 last_line k [] e some = absurd (omega (arith, some))
 last_line k (b ∷ bs) e some = last_on (is_feed b) k b bs (last_line (k + 1) bs) e
+
+few_on : (t : Bool) (b : ℕ) (lines : List (List ℕ)) (n : ℕ) → length lines ≤ n → length (cond t ([] ∷ lines) (onto_first b lines)) ≤ n + 1
+few_on true b lines n h = omega arith
+few_on false b [] n h = omega arith
+few_on false b (l ∷ ls) n h = omega arith
+
+-- a text has no more lines than bytes
+pub lines_few : (bs : List ℕ) → length (lines_of bs) ≤ length bs
+lines_few [] = omega arith
+lines_few (b ∷ bs) = let h = few_on (is_feed b) b (lines_of bs) (length bs) (lines_few bs) in omega (arith, h)
 
 -- ---- words
 

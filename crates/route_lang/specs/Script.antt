@@ -1,7 +1,6 @@
 -- Script grammar: a text is the plans of both families and the lines that speak of them, or its first faulty line
 -- with the first reason against it.
 use Rattle.std.specs.Prelude.{◌≡◌, ◌≤◌, ℕ, ◌+◌, Bool, true, false, nat_lt, List, [], ◌∷◌, ◌++◌, length, Option, Some, None, Result, Ok, Err, if◌then◌else◌}
-use Rattle.std.specs.Arc.{arc_value}
 use Rattle.rib_store.specs.declared.command.Command.{Command}
 use Rattle.rib_store.specs.declared.command.Command.TheVariants as command
 use Rattle.route_lang.specs.Text.{lines_of}
@@ -17,7 +16,6 @@ use Rattle.route_lang.specs.declared.fault.Reason.{Reason}
 use Rattle.route_lang.specs.declared.fault.Reason.TheVariants.{TooLarge}
 use Rattle.route_lang.specs.declared.fault.ScriptError.{ScriptError}
 use Rattle.route_lang.specs.declared.fault.ScriptError.TheVariants as script_error
-use Rattle.route_lang.specs.declared.script.Script.{Script}
 use Rattle.route_lang.specs.declared.script.Plans.{Plans}
 use Rattle.route_lang.specs.declared.script.TheConstants.{INPUT_MAX}
 
@@ -26,13 +24,6 @@ pub record Reading : Type 0 where
   pub inet : List (Command 32)
   pub inet6 : List (Command 128)
   pub lines : List Line
-
-abbrev pub reading_of : Script → Reading
-reading_of script = record {
-  inet = arc_value script.inet;
-  inet6 = arc_value script.inet6;
-  lines = script.lines;
-}
 
 -- ---- what a line adds
 
@@ -98,8 +89,8 @@ script_of bytes =
     else lines_from 1 no_plans (lines_of bytes)
 
 -- what a reader answers is what the definition says, unless memory is wanting
-abbrev pub GivesScript : Result Script ScriptError → Result Reading LineFault → Type 0
-GivesScript (Ok script) reading = reading ≡ Ok (reading_of script)
+abbrev pub GivesScript : Result Reading ScriptError → Result Reading LineFault → Type 0
+GivesScript (Ok script) reading = reading ≡ Ok script
 GivesScript (Err (script_error.Fault fault)) reading = reading ≡ Err fault
 GivesScript (Err script_error.OutOfMemory) reading = Unit {0}
 

@@ -36,7 +36,7 @@ pub enum Reason {
     NoTarget = 13,
     /// The word names no module, or one that is not for the family.
     NoModule = 14,
-    /// The line is of a form that is not built yet.
+    /// What is asked for is not built yet. No script is refused for it.
     NotBuilt = 15,
 }
 

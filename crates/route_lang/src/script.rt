@@ -1,7 +1,9 @@
 ghost use Rattle.std.specs.Prelude.{◌≡◌, ◌<◌, ◌≤◌, ◌-◌, ◌∷◌, ◌++◌, [], OnOk, IfOk, IsErrOf, length};
+ghost use Rattle.std.specs.Arc.{arc_value};
 ghost use Rattle.rib_store.specs.Plan.{IsWrongModule};
 ghost use Rattle.rib_store.specs.declared.plan.TheConstants.{PLAN_MAX};
 ghost use Rattle.route_lang.specs.Asked.{HasOwnModule};
+ghost use Rattle.route_lang.specs.Fits.{IsScript};
 ghost use Rattle.route_lang.specs.Script.{script_of, GivesScript, TakesLine, RefusesLine, HasAtMost, plans_behind, entries_of, shared_command, is_quiet, command_line, no_plans};
 
 use crate::asked::{Asked, Shared};
@@ -11,6 +13,7 @@ use crate::read_line::read_line;
 use crate::text::next_line;
 use rib_store::{Command, Plan, PushError};
 use std::alloc::Global;
+use std::marker::Model;
 use std::sync::Arc;
 
 /// How many bytes a script may have.
@@ -25,9 +28,46 @@ pub const LINE_MAX: usize = 255;
 /// What a script asks for: the commands of each family, and the lines that speak of them.
 #[derive(Drop)]
 pub struct Script {
-    pub inet: Arc<Plan<32>>,
-    pub inet6: Arc<Plan<128>>,
-    pub lines: Lines,
+    inet: Arc<Plan<32>>,
+    inet6: Arc<Plan<128>>,
+    lines: Lines,
+}
+
+impl Model for Script {
+    ghost use Rattle.std.specs.Arc.{arc_value};
+    ghost use Rattle.route_lang.specs.Script.{Reading};
+    ghost use Rattle.route_lang.specs.Fits.{IsScript};
+
+    ghost Value = { Reading };
+
+    ghost view = { λ s. record { inet = arc_value s.inet; inet6 = arc_value s.inet6; lines = s.lines } };
+
+    ghost invariant = { λ s. IsScript (record { inet = arc_value s.inet; inet6 = arc_value s.inet6; lines = s.lines }) };
+}
+
+impl Script {
+    /// The commands of IPv4.
+    pub fn inet(&self) -> &Arc<Plan<32>>
+        ensures { arc_value result.now ≡ self.now.inet }
+    {
+        &self.inet
+    }
+
+    /// The commands of IPv6.
+    pub fn inet6(&self) -> &Arc<Plan<128>>
+        ensures { arc_value result.now ≡ self.now.inet6 }
+    {
+        &self.inet6
+    }
+
+    /// The lines that ask for something, at most [`LINES_MAX`]. Their numbers rise, and they ask
+    /// for the commands of the plans in turn.
+    pub fn lines(&self) -> &Lines
+        ensures value { result.now ≡ self.now.lines }
+        ensures facts { IsScript self.now }
+    {
+        &self.lines
+    }
 }
 
 /// The plans of both families while a script is read.
@@ -84,10 +124,11 @@ fn take_line(
 {
     match read_line(number, line) {
         Ok(asked) => take_asked(plans, lines, number, asked),
-        Err(reason) => Err(ScriptError::Fault(LineFault {
+        Err(reason) => Err(LineFault {
             line: number,
             reason,
-        })),
+        }
+        .into()),
     }
 }
 

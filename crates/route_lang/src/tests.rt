@@ -1,6 +1,6 @@
 use crate::asked::{Asked, Shared};
 use crate::read_line::read_line;
-use crate::{LINE_MAX, Line, LineFault, Reason, ScriptError, read_script};
+use crate::{LINE_MAX, Line, LineFault, Reason, ScriptError, read_script, write_line};
 use prefix_width::{Addr, Kind, Nexthop, Path, Prefix, Setting};
 use rib_store::Command;
 use std::test::Fail;
@@ -256,7 +256,7 @@ fn lines_have_their_positions(rt: HostRuntime) -> Result<(), Fail> {
         Ok(script) => script,
         Err(error) => return Err(error.into()),
     };
-    assert_eq!(rt; (script.inet.len(), script.inet6.len()), (4, 3));
+    assert_eq!(rt; (script.inet().len(), script.inet6().len()), (4, 3));
     let (Some(first), Some(second), Some(third)) = (
         Addr::new(0x0a00_0001),
         Addr::new(1),
@@ -310,10 +310,10 @@ fn lines_have_their_positions(rt: HostRuntime) -> Result<(), Fail> {
             at: 4,
         },
     ];
-    assert_eq!(rt; script.lines.len(), want.len());
+    assert_eq!(rt; script.lines().len(), want.len());
     for (i, line) in want.iter().enumerate() {
-        if i < script.lines.len() {
-            assert_eq!(rt; script.lines.get(i), line);
+        if i < script.lines().len() {
+            assert_eq!(rt; script.lines().get(i), line);
         }
     }
     Ok(())
@@ -331,6 +331,71 @@ fn the_first_faulty_line_is_told(rt: HostRuntime) -> Result<(), Fail> {
             Err(ScriptError::OutOfMemory) => assert!(rt; false, "no memory"),
             Err(ScriptError::Fault(fault)) => { assert_eq!(rt; fault, LineFault { line, reason }) }
         }
+    }
+    Ok(())
+}
+
+// Each kind of line as it may be asked for, and its one spelling.
+const SPELLINGS: [(&[u8], &[u8]); 21] = [
+    (
+        b"route add -net 10.9.0.1/16 192.0.2.1 -weight 1",
+        b"add -inet 10.9.0.0/16 192.0.2.1",
+    ),
+    (
+        b"add -weight 16777215 default -mtu 4294967295 192.0.2.1 -if 65535",
+        b"add -inet 0.0.0.0/0 192.0.2.1 -if 65535 -mtu 4294967295 -weight 16777215",
+    ),
+    (
+        b"add -inet6 2001:DB8::/32 fe80::1 -if 2",
+        b"add -inet6 2001:db8::/32 fe80::1 -if 2",
+    ),
+    (b"add -if 3 10.0.0.1", b"add -inet 10.0.0.1/32 -if 3"),
+    (
+        b"add -inet6 default -weight 7 -mtu 1280 -if 1",
+        b"add -inet6 ::/0 -if 1 -mtu 1280 -weight 7",
+    ),
+    (
+        b"change default 192.0.2.9 -reject -weight 5 -if 2 -mtu 9",
+        b"change -inet 0.0.0.0/0 -reject",
+    ),
+    (
+        b"change -blackhole -inet6 ::1",
+        b"change -inet6 ::1/128 -blackhole",
+    ),
+    (
+        b"change default 192.0.2.1 -mtu 9",
+        b"change -inet 0.0.0.0/0 192.0.2.1 -mtu 9",
+    ),
+    (b"delete 10.0.0.0/8", b"delete -inet 10.0.0.0/8"),
+    (
+        b"delete -inet6 1:0:0:2:0:0:0:3 ::ffff:1.2.3.4",
+        b"delete -inet6 1:0:0:2::3/128 ::ffff:102:304",
+    ),
+    (b"get flow 7 10.0.0.1", b"get -inet 10.0.0.1 flow 7"),
+    (b"get  -inet6 0:0:0:0:0:0:0:1  flow 0", b"get -inet6 ::1"),
+    (b"flush", b"flush"),
+    (b"flush -inet", b"flush -inet"),
+    (b"route -n flush -inet6", b"flush -inet6"),
+    (b"tick 4294967295", b"tick 4294967295"),
+    (b"\tsync\r", b"sync"),
+    (b"algo auto", b"algo -inet auto"),
+    (b"algo dxr", b"algo -inet dxr"),
+    (b"algo range -inet6", b"algo -inet6 range"),
+    (b"algo -inet6 radix", b"algo -inet6 radix"),
+];
+
+#[test]
+fn a_line_has_one_spelling(rt: HostRuntime) -> Result<(), Fail> {
+    let mut out = Vec::new(rt.alloc());
+    for (text, want) in SPELLINGS {
+        out.clear();
+        if let Ok(script) = read_script(rt.alloc(), text) {
+            for i in 0..script.lines().len() {
+                write_line(rt.alloc(), &script, i, &mut out)?;
+            }
+            assert_eq!(rt; out.pop(), Some(b'\n'), "after {text:?}");
+        }
+        assert_eq!(rt; out.as_slice(), want, "of {text:?}");
     }
     Ok(())
 }

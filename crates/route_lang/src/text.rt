@@ -1,4 +1,4 @@
-ghost use Rattle.std.specs.Prelude.{◌≡◌, ◌∷◌, [], ◌<◌, MatchOption, not, false, length, slice_index, IfSome};
+ghost use Rattle.std.specs.Prelude.{◌≡◌, ◌∷◌, [], ◌<◌, ◌≤◌, MatchOption, not, false, length, slice_index, IfSome};
 ghost use Rattle.std.specs.List.{position_from};
 ghost use Rattle.route_lang.specs.Text.{lines_of, words_of, is_blank, is_feed};
 
@@ -63,4 +63,18 @@ pub(crate) fn is_blank(byte: u8) -> bool
     ensures { result ≡ is_blank byte }
 {
     byte == b' ' || byte == b'\t' || byte == b'\r'
+}
+
+/// How many lines a text has.
+pub fn line_count(text: &[u8]) -> usize
+    ensures count { result ≡ length (lines_of text.now) }
+    ensures most { result ≤ length text.now }
+{
+    let mut count = 0;
+    let mut rest = text;
+    'lines: while let Some((_line, after)) = next_line(rest) {
+        count += 1;
+        rest = after;
+    }
+    count
 }

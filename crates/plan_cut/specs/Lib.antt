@@ -1,0 +1,6 @@
+pub mod Counters
+pub mod Course
+pub mod Laws
+pub mod PlanCourse
+pub mod Standing
+pub mod Versions

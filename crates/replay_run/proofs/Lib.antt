@@ -1,0 +1,4 @@
+pub mod FamilyLemmas
+pub mod PacketLemmas
+pub mod ReplayLemmas
+pub mod ShowLemmas

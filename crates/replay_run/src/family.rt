@@ -1,0 +1,179 @@
+ghost use Rattle.std.specs.Prelude.{◌≡◌, ◌+◌, ◌^◌, ◌<◌, ◌≤◌, List, not, IfOk, IfSome, OnOk, length, Some};
+ghost use Rattle.prefix_width.specs.Choice.{SettingSuits, is_kind};
+ghost use Rattle.rib_store.specs.Plan.{IsWrongModule};
+ghost use Rattle.rib_store.specs.Table.{table_after};
+ghost use Rattle.rib_store.specs.declared.command.Command.{Command};
+ghost use Rattle.rib_store.specs.declared.rib.TheConstants.{ROUTES_MAX};
+ghost use Rattle.plan_cut.specs.PlanCourse.{last_version, set_by};
+ghost use Rattle.route_lang.specs.Fits.{behind};
+ghost use Rattle.replay_run.specs.Family.{Follows, FlushesAtMost, IsNext, kept_by};
+ghost use Rattle.replay_run.specs.Output.{reply_at, reply_of};
+
+use crate::OutOfMemory;
+use engine_set::choose;
+use plan_cut::{Cut, Cutter, accepted};
+use prefix_width::{Kind, Setting};
+use rib_store::{Command, Plan, Reply, Rib, Rows};
+use std::alloc::Global;
+
+/// One family of a replay: its table after the commands so far, and its last version.
+#[derive(Drop)]
+pub(crate) struct Family<const W: u32> {
+    /// How many commands of the plan were run.
+    pub(crate) commands: u32,
+    pub(crate) rib: Rib<W>,
+    pub(crate) setting: Setting,
+    pub(crate) cutter: Cutter,
+    /// The last version: its number, its module, and the rows of its table.
+    pub(crate) version: u64,
+    pub(crate) kind: Kind,
+    pub(crate) rows: Rows<W>,
+}
+
+/// The last version of a plan, its end included.
+#[derive(Clone, Copy, Debug, PartialEq, Eq)]
+pub(crate) struct Last {
+    pub(crate) version: u64,
+    pub(crate) routes: u32,
+    pub(crate) kind: Kind,
+}
+
+impl<const W: u32> Family<W> {
+    /// No command was run: the empty table is version 0.
+    pub(crate) fn new(alloc: Global) -> Self
+        ensures commands { result.commands ≡ 0 }
+        ensures follows { (plan : List (Command W)) → Follows plan result }
+    {
+        Family {
+            commands: 0,
+            rib: Rib::new(alloc),
+            setting: Setting::Auto,
+            cutter: Cutter::new(),
+            version: 0,
+            kind: Kind::Range,
+            rows: Rows::new(alloc),
+        }
+    }
+
+    /// Runs the next command of the plan, if a line has one there.
+    pub(crate) fn run_line(
+        &mut self,
+        alloc: Global,
+        plan: &Plan<W>,
+        position: Option<u32>,
+    ) -> Result<Option<Reply>, OutOfMemory>
+        requires follows { Follows plan.now self.old }
+        requires next { IsNext position self.old.commands (length plan.now) }
+        ensures follows { OnOk result (Follows plan.now self.new) }
+        ensures commands { OnOk result (self.new.commands ≡ behind self.old.commands position) }
+        ensures reply { IfOk result (λ reply. reply ≡ reply_of plan.now position) }
+        ensures flushes { IfOk result (λ reply. IfSome reply (FlushesAtMost ROUTES_MAX)) }
+    {
+        if position.is_none() {
+            return Ok(None);
+        }
+        let reply = self.run(alloc, plan)?;
+        Ok(Some(reply))
+    }
+
+    /// Runs the next command of the plan, and keeps the version that it makes, if it makes one.
+    fn run(&mut self, alloc: Global, plan: &Plan<W>) -> Result<Reply, OutOfMemory>
+        requires follows { Follows plan.now self.old }
+        requires inside { self.old.commands < length plan.now }
+        ensures follows { OnOk result (Follows plan.now self.new) }
+        ensures commands { OnOk result (self.new.commands ≡ self.old.commands + 1) }
+        ensures reply { IfOk result (λ reply. Some reply ≡ reply_at plan.now self.old.commands) }
+        ensures flushes { IfOk result (FlushesAtMost ROUTES_MAX) }
+    {
+        let command = plan.command(self.commands);
+        let _most = self.rib.len();
+        let reply = self.rib.apply(alloc, command)?;
+        self.commands += 1;
+        self.setting = setting_behind(self.setting, command);
+        let kind = choose::<W>(Some(self.kind), self.setting, self.rib.len());
+        let differs = is_other(kind, self.kind);
+        let cut = self.cutter.step(accepted(&reply), command, differs);
+        self.keep(alloc, cut, kind)?;
+        Ok(reply)
+    }
+
+    /// Keeps the table as it stands as a version of this module, if one is cut.
+    fn keep(&mut self, alloc: Global, cut: Cut, kind: Kind) -> Result<(), OutOfMemory>
+        requires { self.old.version < 2 ^ 32 }
+        ensures version { OnOk result (self.new.version ≡ kept_by cut (self.old.version + 1) self.old.version) }
+        ensures kind { OnOk result (self.new.kind ≡ kept_by cut kind self.old.kind) }
+        ensures rows { OnOk result (self.new.rows ≡ kept_by cut self.old.rib self.old.rows) }
+        ensures commands { OnOk result (self.new.commands ≡ self.old.commands) }
+        ensures rib { OnOk result (self.new.rib ≡ self.old.rib) }
+        ensures setting { OnOk result (self.new.setting ≡ self.old.setting) }
+        ensures cutter { OnOk result (self.new.cutter ≡ self.old.cutter) }
+    {
+        match cut {
+            Cut::Stay => {}
+            Cut::Now => {
+                self.rows = self.rib.rows(alloc)?;
+                self.version += 1;
+                self.kind = kind;
+            }
+        }
+        Ok(())
+    }
+
+    /// The last version of the plan, all of whose commands were run.
+    pub(crate) fn finish(self, plan: &Plan<W>) -> Last
+        requires follows { Follows plan.now self }
+        requires all { self.commands ≡ length plan.now }
+        ensures version { result.version ≡ (last_version plan.now).number }
+        ensures routes { result.routes ≡ length (table_after plan.now (last_version plan.now).count) }
+        ensures kind { result.kind ≡ (last_version plan.now).kind }
+    {
+        let Family {
+            commands: _,
+            rib,
+            setting,
+            mut cutter,
+            version,
+            kind,
+            rows,
+        } = self;
+        let _most = plan.len();
+        match cutter.finish() {
+            Cut::Now => Last {
+                version: version + 1,
+                routes: rib.len(),
+                kind: choose::<W>(Some(kind), setting, rib.len()),
+            },
+            Cut::Stay => Last {
+                version,
+                routes: rows.len(),
+                kind,
+            },
+        }
+    }
+}
+
+/// The setting behind a command.
+fn setting_behind<const W: u32>(setting: Setting, command: &Command<W>) -> Setting
+    requires suits { SettingSuits W setting }
+    requires module { ¬ (IsWrongModule command.now) }
+    ensures value { result ≡ set_by setting command.now }
+    ensures suits { SettingSuits W result }
+{
+    match command {
+        Command::Algo { setting } => *setting,
+        _ => setting,
+    }
+}
+
+/// Whether two modules differ.
+fn is_other(kind: Kind, current: Kind) -> bool
+    ensures { result ≡ not (is_kind kind current) }
+{
+    match (kind, current) {
+        (Kind::Scan, Kind::Scan) => false,
+        (Kind::Range, Kind::Range) => false,
+        (Kind::Radix, Kind::Radix) => false,
+        (Kind::Dxr, Kind::Dxr) => false,
+        _ => true,
+    }
+}

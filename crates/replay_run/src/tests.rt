@@ -1,0 +1,45 @@
+use crate::{check_text, serial, show_text};
+use route_lang::read_script;
+use std::test::Fail;
+
+// A module that differs from the current one is a version of its own.
+const SCRIPT: &str = "\
+# one route, changed
+add 10.0.0.0/8 192.0.2.1 -weight 1 -mtu 1500
+add -inet6 default -if 3
+get 10.1.2.3 flow 9
+algo radix
+get -inet6 ::1
+";
+
+const OUTPUT: &str = "\
+2 added
+3 added
+4 10.1.2.3 version 1 via 192.0.2.1 if 0 mtu 1500
+6 ::1 version 1 direct if 3 mtu 0
+packets inet 1 via 192.0.2.1 if 0 mtu 1500
+packets inet6 1 direct if 3 mtu 0
+fib inet version 2 routes 1 algo radix
+fib inet6 version 1 routes 1 algo range
+";
+
+const SHOWN: &str = "\
+add -inet 10.0.0.0/8 192.0.2.1 -mtu 1500
+add -inet6 ::/0 -if 3
+get -inet 10.1.2.3 flow 9
+algo -inet radix
+get -inet6 ::1
+";
+
+#[test]
+fn a_script_is_replayed_checked_and_shown(rt: HostRuntime) -> Result<(), Fail> {
+    let alloc = rt.alloc();
+    let script = read_script(alloc, SCRIPT.as_bytes())?;
+    assert_eq!(rt; serial(alloc, &script)?.as_slice(), OUTPUT.as_bytes());
+    assert_eq!(rt;
+        check_text(alloc, &script, 6)?.as_slice(),
+        b"ok 6 lines 5 commands\n".as_slice()
+    );
+    assert_eq!(rt; show_text(alloc, &script)?.as_slice(), SHOWN.as_bytes());
+    Ok(())
+}

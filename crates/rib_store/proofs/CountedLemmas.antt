@@ -1,0 +1,379 @@
+-- The counts of nexthops and groups, as the paths of a route come in or go: they stay right, and how many are live.
+use Rattle.std.proofs.Common.{◌≡◌, ℕ, ◌+◌, ◌-◌, ◌<◌, ◌≤◌, ◌==◌, List, [], ◌∷◌, ◌++◌, length, Bool, true, false, cond, not, ◌&&◌, ◌||◌, Option, Some, None, refl, sym, ◌∙◌, ap, subst, arith, nat_lt, filter, zero-add}
+use Rattle.std.specs.Prelude.{count_by, IsTrue}
+use Rattle.std.specs.List.{list_any, sum_by}
+use Rattle.std.specs.List.Sorted.{IsStrictlySortedBy}
+use Rattle.std.specs.Ordering.{is_eq}
+use Rattle.std.specs.Map.{keys_of}
+use Rattle.std.specs.BTreeMap.{is_at}
+use Rattle.std.proofs.lemmas.Bool.{eqb-true}
+use Rattle.std.proofs.lemmas.Bool.Decides.{nat_tests}
+use Rattle.std.proofs.lemmas.Cmp.{tied_itself}
+use Rattle.std.proofs.lemmas.List.Sums.{sum_by-cons, count_by-le-length}
+use Rattle.std.proofs.lemmas.Map.Entries.{length-keys_of}
+use Rattle.prefix_width.specs.Nexthop.{Hop}
+use Rattle.prefix_width.specs.Path.{WeightedHop}
+use Rattle.prefix_width.specs.Order.{hop_cmp}
+use Rattle.nhgrp_slots.specs.Order.{paths_cmp, paths_total}
+use Rattle.prefix_width.proofs.OrderLemmas.{hop_total}
+use Rattle.nhgrp_slots.specs.PathList.{hops, IsPathList}
+use Rattle.counted_map.specs.Counts.{Counts, count_of, linked, unlinked, times, IsCounts}
+use Rattle.prefix_width.proofs.OrderLemmas.{hop_exact}
+use Rattle.nhgrp_slots.proofs.PathOrder.{paths_exact}
+use Rattle.counted_map.proofs.CountMapLemmas.{linked_at, unlinked_at, linked_all_at, unlinked_all_at, IsCounts-linked, IsCounts-unlinked, IsCounts-linked_all, length-linked, length-unlinked, length-linked_all, length-unlinked_all, times_once, sum-linked, sum-unlinked, keys_are_distinct, any-distinct, same_counts}
+use Rattle.rib_store.specs.Uses.{Uses, gained, lost, with_paths, without_paths, live_in, grown, shrunk, AreCounts, HasPaths, HasOld, without_old, IsCounted}
+use Rattle.rib_store.specs.Live.{is_group, hops_of, live_hops, live_groups}
+use Rattle.nhgrp_slots.specs.PathList.{names}
+
+any-hops : (f : Hop → Bool) (ps : List WeightedHop) → list_any f (hops ps) ≡ list_any (λ p. f p.nexthop) ps
+any-hops f [] = refl
+any-hops f (p ∷ ps) = ap (λ b. f p.nexthop || b) (any-hops f ps)
+
+names_once : (h : Hop) (ps : List WeightedHop) → IsPathList ps → times hop_cmp h (hops ps) ≡ cond (names h ps) 1 0
+names_once h ps is = times_once hop_cmp hop_total hop_exact (hops ps) h is.ascend ∙ ap (λ b. cond b 1 0) (any-hops (is_at (hop_cmp h)) ps)
+
+times-cond : (h : Hop) (b : Bool) (ks : List Hop) → times hop_cmp h (cond b [] ks) ≡ cond b 0 (times hop_cmp h ks)
+times-cond h true ks = refl
+times-cond h false ks = refl
+
+cond-cond : (b : Bool) (x y : ℕ) → x ≡ y → cond b 0 x ≡ cond b 0 y
+cond-cond b x y e = ap (cond b 0) e
+
+times-gained : (u : Uses) (ps : List WeightedHop) (h : Hop) → IsPathList ps → times hop_cmp h (gained u ps) ≡ cond (is_group ps && not (count_of paths_cmp u.groups ps == 0)) 0 (cond (names h ps) 1 0)
+times-gained u ps h is = times-cond h (is_group ps && not (count_of paths_cmp u.groups ps == 0)) (hops ps) ∙ cond-cond (is_group ps && not (count_of paths_cmp u.groups ps == 0)) _ _ (names_once h ps is)
+
+times-lost : (u : Uses) (ps : List WeightedHop) (h : Hop) → IsPathList ps → times hop_cmp h (lost u ps) ≡ cond (is_group ps && not (count_of paths_cmp u.groups ps == 1)) 0 (cond (names h ps) 1 0)
+times-lost u ps h is = times-cond h (is_group ps && not (count_of paths_cmp u.groups ps == 1)) (hops ps) ∙ cond-cond (is_group ps && not (count_of paths_cmp u.groups ps == 1)) _ _ (names_once h ps is)
+
+pick-keys : (f : List WeightedHop → Bool) (g : Bool) (m n : Counts (List WeightedHop)) → count_by f (keys_of (cond g m n)) ≡ cond g (count_by f (keys_of m)) (count_by f (keys_of n))
+pick-keys f true m n = refl
+pick-keys f false m n = refl
+
+pick-count : (q : List WeightedHop) (g : Bool) (m n : Counts (List WeightedHop)) → count_of paths_cmp (cond g m n) q ≡ cond g (count_of paths_cmp m q) (count_of paths_cmp n q)
+pick-count q true m n = refl
+pick-count q false m n = refl
+
+-- the numbers of one nexthop, as a list of paths comes in
+come : (g z n : Bool) (old lists groups new lists' groups' t : ℕ) → old ≡ lists + groups → new ≡ old + t → t ≡ cond (g && not z) 0 (cond n 1 0) → lists' ≡ lists + cond (not g && n) 1 0 → groups' ≡ cond g (groups + cond z (cond n 1 0) 0) groups → new ≡ lists' + groups'
+come true true true old lists groups new lists' groups' t a b d e f = omega arith
+come true true false old lists groups new lists' groups' t a b d e f = omega arith
+come true false true old lists groups new lists' groups' t a b d e f = omega arith
+come true false false old lists groups new lists' groups' t a b d e f = omega arith
+come false z true old lists groups new lists' groups' t a b d e f = omega arith
+come false z false old lists groups new lists' groups' t a b d e f = omega arith
+
+-- and as one goes
+go_out : (g z n : Bool) (old lists groups new lists' groups' t : ℕ) → old ≡ lists + groups → new + t ≡ old → t ≡ cond (g && not z) 0 (cond n 1 0) → lists' + cond (not g && n) 1 0 ≡ lists → groups ≡ cond g (groups' + cond z (cond n 1 0) 0) groups' → new ≡ lists' + groups'
+go_out true true true old lists groups new lists' groups' t a b d e f = omega arith
+go_out true true false old lists groups new lists' groups' t a b d e f = omega arith
+go_out true false true old lists groups new lists' groups' t a b d e f = omega arith
+go_out true false false old lists groups new lists' groups' t a b d e f = omega arith
+go_out false z true old lists groups new lists' groups' t a b d e f = omega arith
+go_out false z false old lists groups new lists' groups' t a b d e f = omega arith
+
+pub AreCounts-with : (u : Uses) (ps : List WeightedHop) → AreCounts u → AreCounts (with_paths u ps)
+AreCounts-with u ps is =
+    let a = IsCounts-linked paths_cmp paths_total u.groups ps is.groups in
+    record {
+      nhops = IsCounts-linked_all hop_cmp hop_total u.nhops (gained u ps) is.nhops;
+      groups = elim (is_group ps) as (λ b. IsCounts paths_cmp (cond b (linked paths_cmp u.groups ps) u.groups)) [ true ↦ a | false ↦ is.groups ];
+    }
+
+-- the counts stay right as a list of paths comes in
+pub IsCounted-with : (lists more : List (List WeightedHop)) (u : Uses) (ps : List WeightedHop) → IsCounted lists u → AreCounts u → IsPathList ps → ((f : List WeightedHop → ℕ) → sum_by f more ≡ sum_by f lists + f ps) → IsCounted more (with_paths u ps)
+IsCounted-with lists more u ps counted are is sums = record {
+  nhops = λ h.
+      let keys = sum-linked paths_cmp paths_total (λ g. cond (names h g) 1 0) u.groups ps are.groups in
+      come (is_group ps) (count_of paths_cmp u.groups ps == 0) (names h ps) _ _ _ _ _ _ _ (counted.nhops h)
+      (linked_all_at hop_cmp hop_total hop_exact u.nhops (gained u ps) h)
+      (times-gained u ps h is)
+      (sums (λ qs. cond (not (is_group qs) && names h qs) 1 0))
+      (pick-keys (names h) (is_group ps) (linked paths_cmp u.groups ps) u.groups ∙ ap (λ n. cond (is_group ps) n (count_by (names h) (keys_of u.groups))) keys);
+  groups = λ q.
+      pick-count q (is_group ps) (linked paths_cmp u.groups ps) u.groups
+      ∙ grow (is_group ps) (is_eq (paths_cmp q ps)) _ _ _ _ (linked_at paths_cmp paths_total paths_exact u.groups ps q) (counted.groups q) (sums (λ qs. cond (is_group qs && is_eq (paths_cmp q qs)) 1 0));
+}
+  where
+    grow : (g b : Bool) (new old lists' lists : ℕ) → new ≡ old + cond b 1 0 → old ≡ lists → lists' ≡ lists + cond (g && b) 1 0 → cond g new old ≡ lists'
+    grow true true new old lists' lists a d e = omega arith
+    grow true false new old lists' lists a d e = omega arith
+    grow false b new old lists' lists a d e = omega arith
+
+one_itself : (g : List WeightedHop) → ◌≡◌ {A = ℕ} (cond (is_eq (paths_cmp g g)) 1 0) 1
+one_itself g = let f : Bool → ℕ = λ b. cond b 1 0 in ap f (ap is_eq (tied_itself paths_total g))
+
+first-le : (g z n : Bool) (t lists lists' groups all : ℕ) → t ≡ cond (g && not z) 0 (cond n 1 0) → lists' + cond (not g && n) 1 0 ≡ lists → (g ≡ true → z ≡ true → cond n 1 0 ≤ groups) → all ≡ lists + groups → t ≤ all
+first-le true true n t lists lists' groups all a b d e = let p = d refl refl in omega arith
+first-le true false n t lists lists' groups all a b d e = omega arith
+first-le false z true t lists lists' groups all a b d e = omega arith
+first-le false z false t lists lists' groups all a b d e = omega arith
+
+and_true : (a b : Bool) → a ≡ true → b ≡ true → ◌≡◌ {A = ℕ} (cond (a && b) 1 0) 1
+and_true true true e f = refl
+and_true true false e f = cc
+and_true false b e f = cc
+
+-- what stands in the table may be taken from the counts
+pub HasPaths-from : (lists less : List (List WeightedHop)) (u : Uses) (ps : List WeightedHop) → IsCounted lists u → IsPathList ps → ((f : List WeightedHop → ℕ) → sum_by f less + f ps ≡ sum_by f lists) → HasPaths u ps
+HasPaths-from lists less u ps counted is sums = record {
+  nhops = λ h.
+      first-le (is_group ps) (count_of paths_cmp u.groups ps == 1) (names h ps) _ _ _ _ _ (times-lost u ps h is)
+      (sums (λ qs. cond (not (is_group qs) && names h qs) 1 0))
+      (λ g z. key_there h g z)
+      (counted.nhops h);
+  group = λ g. there g;
+}
+  where
+    there : IsTrue (is_group ps) → 1 ≤ count_of paths_cmp u.groups ps
+    there g =
+        let e = counted.groups ps in
+        let s = sums (λ qs. cond (is_group qs && is_eq (paths_cmp ps qs)) 1 0) in
+        let one = and_true (is_group ps) (is_eq (paths_cmp ps ps)) g (ap is_eq (tied_itself paths_total ps)) in
+        omega arith
+
+    key_there : (h : Hop) → is_group ps ≡ true → (count_of paths_cmp u.groups ps == 1) ≡ true → cond (names h ps) 1 0 ≤ count_by (names h) (keys_of u.groups)
+    key_there h g z =
+        let n = eqb-true _ _ z in
+        let s = sum-unlinked paths_cmp paths_total paths_exact (λ g. cond (names h g) 1 0) u.groups ps (omega arith) in
+        let f : Bool → ℕ = λ b. cond b (cond (names h ps) 1 0) 0 in
+        let t = ap f z in
+        omega arith
+
+pub AreCounts-without : (u : Uses) (ps : List WeightedHop) → AreCounts u → HasPaths u ps → AreCounts (without_paths u ps)
+AreCounts-without u ps is has = record {
+  nhops = (unlinked_all_at hop_cmp hop_total hop_exact u.nhops (lost u ps) is.nhops has.nhops).0;
+  groups = go (is_group ps) has.group;
+}
+  where
+    go : (g : Bool) → (IsTrue g → 1 ≤ count_of paths_cmp u.groups ps) → IsCounts paths_cmp (cond g (unlinked paths_cmp u.groups ps) u.groups)
+    go true h = IsCounts-unlinked paths_cmp paths_total u.groups ps is.groups (h refl)
+    go false h = is.groups
+
+-- the counts stay right as a list of paths goes
+pub IsCounted-without : (lists less : List (List WeightedHop)) (u : Uses) (ps : List WeightedHop) → IsCounted lists u → AreCounts u → IsPathList ps → ((f : List WeightedHop → ℕ) → sum_by f less + f ps ≡ sum_by f lists) → IsCounted less (without_paths u ps)
+IsCounted-without lists less u ps counted are is sums =
+    let has = HasPaths-from lists less u ps counted is sums in
+    record {
+      nhops = λ h.
+          go_out (is_group ps) (count_of paths_cmp u.groups ps == 1) (names h ps) _ _ _ _ _ _ _ (counted.nhops h)
+          ((unlinked_all_at hop_cmp hop_total hop_exact u.nhops (lost u ps) are.nhops has.nhops).1 h)
+          (times-lost u ps h is)
+          (sums (λ qs. cond (not (is_group qs) && names h qs) 1 0))
+          (keys h (is_group ps) has.group);
+      groups = λ q. shrink q (is_group ps) has.group (counted.groups q) (sums (λ qs. cond (is_group qs && is_eq (paths_cmp q qs)) 1 0));
+    }
+  where
+    keys : (h : Hop) (g : Bool) → (IsTrue g → 1 ≤ count_of paths_cmp u.groups ps) → count_by (names h) (keys_of u.groups) ≡ cond g (count_by (names h) (keys_of (cond g (unlinked paths_cmp u.groups ps) u.groups)) + cond (count_of paths_cmp u.groups ps == 1) (cond (names h ps) 1 0) 0) (count_by (names h) (keys_of (cond g (unlinked paths_cmp u.groups ps) u.groups)))
+    keys h true has = sym (sum-unlinked paths_cmp paths_total paths_exact (λ g. cond (names h g) 1 0) u.groups ps (has refl))
+    keys h false has = refl
+
+    shrink : (q : List WeightedHop) (g : Bool) → (IsTrue g → 1 ≤ count_of paths_cmp u.groups ps) → {all rest : ℕ} → count_of paths_cmp u.groups q ≡ all → rest + cond (g && is_eq (paths_cmp q ps)) 1 0 ≡ all → count_of paths_cmp (cond g (unlinked paths_cmp u.groups ps) u.groups) q ≡ rest
+    shrink q true has a b = let n = unlinked_at paths_cmp paths_total paths_exact u.groups ps q are.groups (has refl) in omega arith
+    shrink q false has a b = omega arith
+
+-- sizes
+sorted-cond : (b : Bool) (ks : List Hop) → IsStrictlySortedBy hop_cmp ks → IsStrictlySortedBy hop_cmp (cond b [] ks)
+unfolding IsStrictlySortedBy
+sorted-cond true ks up = tt
+sorted-cond false ks up = up
+
+pub live_in-with : (u : Uses) (ps : List WeightedHop) → AreCounts u → IsPathList ps → live_in (with_paths u ps) ≡ live_in u + grown u ps
+live_in-with u ps are is =
+    let n = length-linked_all hop_cmp hop_total hop_exact u.nhops (gained u ps) are.nhops (sorted-cond _ (hops ps) is.ascend) in
+    let g = go (is_group ps) in
+    omega arith
+  where
+    go : (g : Bool) → length (cond g (linked paths_cmp u.groups ps) u.groups) ≡ length u.groups + cond (g && (count_of paths_cmp u.groups ps == 0)) 1 0
+    go true = length-linked paths_cmp paths_total u.groups ps are.groups
+    go false = omega arith
+
+pub live_in-without : (u : Uses) (ps : List WeightedHop) → AreCounts u → IsPathList ps → HasPaths u ps → live_in (without_paths u ps) + shrunk u ps ≡ live_in u
+live_in-without u ps are is has =
+    let n = length-unlinked_all hop_cmp hop_total hop_exact u.nhops (lost u ps) are.nhops has.nhops (sorted-cond _ (hops ps) is.ascend) in
+    let g = go (is_group ps) has.group in
+    omega arith
+  where
+    go : (g : Bool) → (IsTrue g → 1 ≤ count_of paths_cmp u.groups ps) → length (cond g (unlinked paths_cmp u.groups ps) u.groups) + cond (g && (count_of paths_cmp u.groups ps == 1)) 1 0 ≡ length u.groups
+    go true h = length-unlinked paths_cmp paths_total u.groups ps (h refl)
+    go false h = omega arith
+
+-- what came in may go out again, and all is as before
+one_more : (g : Bool) (n m : ℕ) → m ≡ n + 1 → (g && not (cond g m n == 1)) ≡ (g && not (n == 0))
+one_more true n m e = grind (arith, nat_tests)
+one_more false n m e = refl
+
+lost-with : (u : Uses) (ps : List WeightedHop) → lost (with_paths u ps) ps ≡ gained u ps
+lost-with u ps =
+    let l = linked_at paths_cmp paths_total paths_exact u.groups ps ps in
+    let e = one_itself ps in
+    let m : count_of paths_cmp (linked paths_cmp u.groups ps) ps ≡ count_of paths_cmp u.groups ps + 1 = omega arith in
+    ap (λ n. cond (is_group ps && not (n == 1)) [] (hops ps)) (pick-count ps (is_group ps) (linked paths_cmp u.groups ps) u.groups)
+    ∙ ap (λ b. cond b [] (hops ps)) (one_more (is_group ps) _ _ m)
+
+pub HasPaths-with : (u : Uses) (ps : List WeightedHop) → HasPaths (with_paths u ps) ps
+HasPaths-with u ps = record {
+  nhops = λ h.
+      let l = linked_all_at hop_cmp hop_total hop_exact u.nhops (gained u ps) h in
+      let t = ap (times hop_cmp h) (lost-with u ps) in
+      omega arith;
+  group = λ g. go (is_group ps) g;
+}
+  where
+    go : (g : Bool) → IsTrue g → 1 ≤ count_of paths_cmp (cond g (linked paths_cmp u.groups ps) u.groups) ps
+    go true h =
+        let l = linked_at paths_cmp paths_total paths_exact u.groups ps ps in
+        let e = one_itself ps in
+        omega arith
+    go false h = cc
+
+pub undone : (u : Uses) (ps : List WeightedHop) → AreCounts u → without_paths (with_paths u ps) ps ≡ u
+undone u ps are =
+    let has = HasPaths-with u ps in
+    let with' = AreCounts-with u ps are in
+    let out = AreCounts-without (with_paths u ps) ps with' has in
+    let n : (without_paths (with_paths u ps) ps).nhops ≡ u.nhops = same_counts hop_cmp hop_total hop_exact _ _ out.nhops are.nhops (λ h. at_hop h) in
+    let g : (without_paths (with_paths u ps) ps).groups ≡ u.groups = same_counts paths_cmp paths_total paths_exact _ _ out.groups are.groups (λ q. at_group (is_group ps) q has.group) in
+    λ i. record { nhops = n i; groups = g i }
+  where
+    at_hop : (h : Hop) → count_of hop_cmp (without_paths (with_paths u ps) ps).nhops h ≡ count_of hop_cmp u.nhops h
+    at_hop h =
+        let l = linked_all_at hop_cmp hop_total hop_exact u.nhops (gained u ps) h in
+        let t = ap (times hop_cmp h) (lost-with u ps) in
+        let o = (unlinked_all_at hop_cmp hop_total hop_exact (with_paths u ps).nhops (lost (with_paths u ps) ps) (AreCounts-with u ps are).nhops (HasPaths-with u ps).nhops).1 h in
+        omega arith
+
+    at_group : (g : Bool) (q : List WeightedHop) → (IsTrue g → 1 ≤ count_of paths_cmp (cond g (linked paths_cmp u.groups ps) u.groups) ps) → count_of paths_cmp (cond g (unlinked paths_cmp (cond g (linked paths_cmp u.groups ps) u.groups) ps) (cond g (linked paths_cmp u.groups ps) u.groups)) q ≡ count_of paths_cmp u.groups q
+    at_group true q h =
+        let l = linked_at paths_cmp paths_total paths_exact u.groups ps q in
+        let o = unlinked_at paths_cmp paths_total paths_exact (linked paths_cmp u.groups ps) ps q (IsCounts-linked paths_cmp paths_total u.groups ps are.groups) (h refl) in
+        omega arith
+    at_group false q h = refl
+
+-- bounds
+pub few_hops : (lists : List (List WeightedHop)) (u : Uses) (h : Hop) → IsCounted lists u → count_of hop_cmp u.nhops h ≤ length lists + length u.groups
+few_hops lists u h counted =
+    let e = counted.nhops h in
+    let a = count_by-le-length (λ ps. not (is_group ps) && names h ps) lists in
+    let b = count_by-le-length (names h) (keys_of u.groups) in
+    let l = length-keys_of u.groups in
+    omega arith
+
+pub few_groups : (lists : List (List WeightedHop)) (u : Uses) (g : List WeightedHop) → IsCounted lists u → count_of paths_cmp u.groups g ≤ length lists
+few_groups lists u g counted =
+    let e = counted.groups g in
+    let a = count_by-le-length (λ ps. is_group ps && is_eq (paths_cmp g ps)) lists in
+    omega arith
+
+-- what is live
+any-count : {X : Type 0} (f : X → Bool) (xs : List X) → nat_lt 0 (count_by f xs) ≡ list_any f xs
+any-count f [] = refl
+any-count {X} f (x ∷ xs) = ap (nat_lt 0) (sum_by-cons (λ y. cond (f y) 1 0) x xs) ∙ go (f x) (any-count f xs)
+  where
+    go : (b : Bool) → nat_lt 0 (count_by f xs) ≡ list_any f xs → nat_lt 0 (cond b 1 0 + count_by f xs) ≡ (b || list_any f xs)
+    go true h = grind (arith, nat_tests)
+    go false h = ap (nat_lt 0) (zero-add (count_by f xs)) ∙ h
+
+any-sum : (a b : ℕ) → nat_lt 0 (a + b) ≡ (nat_lt 0 a || nat_lt 0 b)
+any-sum a b = grind (arith, nat_tests)
+
+any-filter : {X : Type 0} (f t : X → Bool) (xs : List X) → list_any f (filter t xs) ≡ list_any (λ x. t x && f x) xs
+any-filter f t [] = refl
+any-filter f t (x ∷ xs) =
+    let ih = any-filter f t xs in
+    elim (t x) as (λ b. list_any f (cond b (x ∷ filter t xs) (filter t xs)) ≡ ((b && f x) || list_any (λ y. t y && f y) xs)) [ true ↦ ap (λ b. f x || b) ih | false ↦ ih ]
+
+any-append : {X : Type 0} (f : X → Bool) (xs ys : List X) → list_any f (xs ++ ys) ≡ (list_any f xs || list_any f ys)
+any-append f [] ys = refl
+any-append f (x ∷ xs) ys = ap (λ b. f x || b) (any-append f xs ys) ∙ three (f x) (list_any f xs) (list_any f ys)
+  where
+    three : (a b c : Bool) → (a || (b || c)) ≡ ((a || b) || c)
+    three true b c = refl
+    three false b c = refl
+
+split : (g n : Bool) (a b : Bool) → ((not g && n) || a) || ((g && n) || b) ≡ (n || (a || b))
+split true true true b = refl
+split true true false b = refl
+split true false a b = refl
+split false true a b = refl
+split false false a b = refl
+
+any-hops_of : (h : Hop) (lists : List (List WeightedHop)) → (list_any (λ ps. not (is_group ps) && names h ps) lists || list_any (λ ps. is_group ps && names h ps) lists) ≡ list_any (is_at (hop_cmp h)) (hops_of lists)
+any-hops_of h [] = refl
+any-hops_of h (ps ∷ rest) =
+    split (is_group ps) (names h ps) (list_any (λ qs. not (is_group qs) && names h qs) rest) (list_any (λ qs. is_group qs && names h qs) rest)
+    ∙ ap (λ b. names h ps || b) (any-hops_of h rest)
+    ∙ ap (λ b. b || list_any (is_at (hop_cmp h)) (hops_of rest)) (sym (any-hops (is_at (hop_cmp h)) ps))
+    ∙ sym (any-append (is_at (hop_cmp h)) (hops ps) (hops_of rest))
+
+pub keys_groups : (lists : List (List WeightedHop)) (u : Uses) → IsCounted lists u → AreCounts u → keys_of u.groups ≡ live_groups lists
+keys_groups lists u counted are =
+    keys_are_distinct paths_cmp paths_total paths_exact u.groups (filter is_group lists) are.groups
+    (λ q. ap (nat_lt 0) (counted.groups q) ∙ any-count (λ ps. is_group ps && is_eq (paths_cmp q ps)) lists ∙ sym (any-filter (is_at (paths_cmp q)) is_group lists))
+
+pub keys_nhops : (lists : List (List WeightedHop)) (u : Uses) → IsCounted lists u → AreCounts u → keys_of u.nhops ≡ live_hops lists
+keys_nhops lists u counted are =
+    keys_are_distinct hop_cmp hop_total hop_exact u.nhops (hops_of lists) are.nhops
+    (λ h. ap (nat_lt 0) (counted.nhops h) ∙ any-sum _ _
+    ∙ ap (λ b. b || nat_lt 0 (count_by (names h) (keys_of u.groups))) (any-count (λ ps. not (is_group ps) && names h ps) lists)
+    ∙ ap (λ b. list_any (λ ps. not (is_group ps) && names h ps) lists || b) (in_groups h)
+    ∙ any-hops_of h lists)
+  where
+    in_groups : (h : Hop) → nat_lt 0 (count_by (names h) (keys_of u.groups)) ≡ list_any (λ ps. is_group ps && names h ps) lists
+    in_groups h =
+        any-count (names h) (keys_of u.groups)
+        ∙ ap (list_any (names h)) (keys_groups lists u counted are)
+        ∙ any-distinct paths_cmp paths_total paths_exact (names h) (filter is_group lists)
+        ∙ any-filter (names h) is_group lists
+
+-- the number of live targets is that of the entries
+pub live_count : (lists : List (List WeightedHop)) (u : Uses) → IsCounted lists u → AreCounts u → live_in u ≡ length (live_hops lists) + length (live_groups lists)
+live_count lists u counted are =
+    let a = sym (length-keys_of u.nhops) ∙ ap length (keys_nhops lists u counted are) in
+    let b = sym (length-keys_of u.groups) ∙ ap length (keys_groups lists u counted are) in
+    omega arith
+
+-- counts with a route of these paths
+pub count_with : (u : Uses) (ps : List WeightedHop) (h : Hop) → IsPathList ps → (g n : Bool) → g ≡ not (is_group ps && not (count_of paths_cmp u.groups ps == 0)) → n ≡ names h ps → count_of hop_cmp (with_paths u ps).nhops h ≡ count_of hop_cmp u.nhops h + cond g (cond n 1 0) 0
+count_with u ps h is g n e f =
+    let l = linked_all_at hop_cmp hop_total hop_exact u.nhops (gained u ps) h in
+    let t = times-gained u ps h is in
+    let k : ◌≡◌ {A = ℕ} (cond (is_group ps && not (count_of paths_cmp u.groups ps == 0)) 0 (cond (names h ps) 1 0)) (cond g (cond n 1 0) 0) =
+    turn (is_group ps && not (count_of paths_cmp u.groups ps == 0)) (names h ps) g n e f in
+    omega arith
+  where
+    turn : (b m g n : Bool) → g ≡ not b → n ≡ m → ◌≡◌ {A = ℕ} (cond b 0 (cond m 1 0)) (cond g (cond n 1 0) 0)
+    turn true m g n e f = ap (λ x. cond x (cond n 1 0) 0) (sym e)
+    turn false m g n e f = ap (λ x. cond x 1 0) (sym f) ∙ ap (λ x. cond x (cond n 1 0) 0) (sym e)
+
+pub group_with : (u : Uses) (ps q : List WeightedHop) (g n : Bool) → g ≡ is_group ps → n ≡ is_eq (paths_cmp q ps) → count_of paths_cmp (with_paths u ps).groups q ≡ count_of paths_cmp u.groups q + cond g (cond n 1 0) 0
+group_with u ps q g n e f =
+    pick-count q (is_group ps) (linked paths_cmp u.groups ps) u.groups ∙ turn (is_group ps) g e
+  where
+    turn : (b g : Bool) → g ≡ b → cond b (count_of paths_cmp (linked paths_cmp u.groups ps) q) (count_of paths_cmp u.groups q) ≡ count_of paths_cmp u.groups q + cond g (cond n 1 0) 0
+    turn true g e =
+        let l = linked_at paths_cmp paths_total paths_exact u.groups ps q in
+        let k : ◌≡◌ {A = ℕ} (cond g (cond n 1 0) 0) (cond (is_eq (paths_cmp q ps)) 1 0) = ap (λ x. cond x (cond n 1 0) 0) e ∙ ap (λ x. cond x 1 0) f in
+        omega arith
+    turn false g e =
+        let k : ◌≡◌ {A = ℕ} (cond g (cond n 1 0) 0) 0 = ap (λ x. cond x (cond n 1 0) 0) e in
+        omega arith
+
+pub is_group_length : (ps : List WeightedHop) (g : Bool) → (g ≡ true → 2 ≤ length ps) → (g ≡ false → length ps < 2) → g ≡ is_group ps
+is_group_length [] true f h = let x = f refl in absurd (omega arith)
+is_group_length [] false f h = refl
+is_group_length (p ∷ []) true f h = let x = f refl in absurd (omega arith)
+is_group_length (p ∷ []) false f h = refl
+is_group_length (p ∷ q ∷ ps) true f h = refl
+is_group_length (p ∷ q ∷ ps) false f h = let x = h refl in absurd (omega arith)
+
+pub after_none : (u : Uses) (new : List WeightedHop) (o : Option (List WeightedHop)) (l g : ℕ) → o ≡ None → l ≡ live_in u → g ≡ grown u new → AreCounts u → IsPathList new → l + g ≡ live_in (without_old (with_paths u new) o)
+after_none u new o l g e size more are is =
+    let a = live_in-with u new are is in
+    subst (λ x. l + g ≡ live_in (without_old (with_paths u new) x)) (sym e) (omega arith)
+
+pub after_some : (u : Uses) (new old : List WeightedHop) (o : Option (List WeightedHop)) (l g s : ℕ) → o ≡ Some old → l ≡ live_in u → g ≡ grown u new → s ≡ shrunk (with_paths u new) old → AreCounts u → IsPathList new → IsPathList old → HasOld (with_paths u new) o → (s ≤ l + g) × (l + g - s ≡ live_in (without_old (with_paths u new) o))
+after_some u new old o l g s e size more less are is js has =
+    let a = live_in-with u new are is in
+    let h : HasPaths (with_paths u new) old = subst (HasOld (with_paths u new)) e has in
+    let b = live_in-without (with_paths u new) old (AreCounts-with u new are) js h in
+    (omega arith, subst (λ x. l + g - s ≡ live_in (without_old (with_paths u new) x)) (sym e) (omega arith))

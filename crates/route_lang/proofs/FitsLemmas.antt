@@ -1,0 +1,203 @@
+-- Every script that the grammar gives keeps its facts, and what a walk over its lines has of them.
+use Rattle.std.proofs.Common.{◌≡◌, ◌∙◌, ℕ, ◌+◌, ◌-◌, ◌<◌, ◌≤◌, Bool, true, false, List, [], ◌∷◌, ◌++◌, Option, Some, None, Result, Ok, Err, length, drop, MatchOption, IfOk, not, zero, suc, refl, sym, ap, subst, arith, append_assoc, append-nil, length-append}
+use Rattle.std.specs.List.{slice_get}
+use Rattle.std.proofs.lemmas.Option.{slice_get_within, slice_get-get_or, get_or_from_slice_get}
+use Rattle.std.proofs.lemmas.List.{drop_more}
+use Rattle.std.proofs.Math.Seq.{get_or-append_seam}
+use Rattle.rib_store.specs.declared.command.Command.{Command}
+use Rattle.rib_store.specs.declared.command.Command.TheVariants as command
+use Rattle.route_lang.specs.Asked.{asked_of}
+use Rattle.route_lang.proofs.AskedLemmas.{IsAskedAt, asked_at}
+use Rattle.route_lang.proofs.CommandLemmas.{IsCommand}
+use Rattle.route_lang.specs.Script.{Reading, is_quiet, shared_command, command_line, plans_behind, entries_of, with_front, then_lines, lines_from, no_plans}
+use Rattle.route_lang.specs.Fits.{Positions, behind, positions_behind, Rises, HasAt, FitsLine, Fits, HasCommands, is_algo, IsScript}
+use Rattle.route_lang.specs.declared.asked.Asked.{Asked}
+use Rattle.route_lang.specs.declared.asked.Asked.TheVariants.{Nothing, Inet, Inet6, Both, Get4, Get6}
+use Rattle.route_lang.specs.declared.asked.Shared.{Shared}
+use Rattle.route_lang.specs.declared.asked.Shared.TheVariants as shared
+use Rattle.route_lang.specs.declared.line.Line.{Line}
+use Rattle.route_lang.specs.declared.line.Line.TheVariants as line
+use Rattle.route_lang.specs.declared.fault.LineFault.{LineFault}
+use Rattle.route_lang.specs.declared.fault.Reason.{Reason}
+use Rattle.route_lang.specs.declared.script.Plans.{Plans}
+use Rattle.route_lang.specs.declared.script.TheConstants.{LINES_MAX}
+
+-- ---- the line of a command
+
+-- the command behind a list stands at its length
+pub seam : {w : ℕ} (xs more whole : List (Command w)) (c : Command w) → whole ≡ (xs ++ c ∷ []) ++ more → slice_get whole (length xs) ≡ Some c
+seam xs more whole c e =
+    let long = length-append xs (c ∷ more) in
+    rw (e ∙ append_assoc xs (c ∷ []) more)
+    (slice_get-get_or (xs ++ c ∷ more) (length xs) c (omega arith) ∙ ap Some (get_or-append_seam xs c more c))
+
+module _ (plan : List (Command 32)) (plan6 : List (Command 128)) (at : Positions) (number : ℕ) where
+  line_fits : (pos : ℕ) (c : Command 32) → IsCommand 32 c → pos ≡ at.inet → slice_get plan pos ≡ Some c → FitsLine plan plan6 at (command_line (is_quiet c) number (Some pos) None)
+  line_fits pos (command.Add prefix path) own e found = (e, rw found refl)
+  line_fits pos (command.Change prefix path) own e found = (e, rw found refl)
+  line_fits pos (command.Delete prefix gateway) own e found = (e, rw found refl)
+  line_fits pos command.Flush own e found = (e, rw found refl)
+  line_fits pos (command.Tick ms) own e found = absurd own
+  line_fits pos command.Sync own e found = absurd own
+  line_fits pos (command.Algo setting) own e found = (e, rw found refl)
+
+  line_fits6 : (pos : ℕ) (c : Command 128) → IsCommand 128 c → pos ≡ at.inet6 → slice_get plan6 pos ≡ Some c → FitsLine plan plan6 at (command_line (is_quiet c) number None (Some pos))
+  line_fits6 pos (command.Add prefix path) own e found = (e, rw found refl)
+  line_fits6 pos (command.Change prefix path) own e found = (e, rw found refl)
+  line_fits6 pos (command.Delete prefix gateway) own e found = (e, rw found refl)
+  line_fits6 pos command.Flush own e found = (e, rw found refl)
+  line_fits6 pos (command.Tick ms) own e found = absurd own
+  line_fits6 pos command.Sync own e found = absurd own
+  line_fits6 pos (command.Algo setting) own e found = (e, rw found refl)
+
+  both_fit : (pos pos6 : ℕ) (s : Shared) → pos ≡ at.inet → pos6 ≡ at.inet6 → slice_get plan pos ≡ Some (shared_command s) → slice_get plan6 pos6 ≡ Some (shared_command s)
+      → FitsLine plan plan6 at (command_line (is_quiet {w = 32} (shared_command s)) number (Some pos) (Some pos6))
+  both_fit pos pos6 shared.Flush e e6 found found6 = (e, e6, record { shared = shared.Flush; kind = refl; inet = found; inet6 = found6 })
+  both_fit pos pos6 (shared.Tick ms) e e6 found found6 = (e, e6, record { shared = shared.Tick ms; kind = refl; inet = found; inet6 = found6 })
+  both_fit pos pos6 shared.Sync e e6 found found6 = (e, e6, record { shared = shared.Sync; kind = refl; inet = found; inet6 = found6 })
+
+  then_fits : (quiet : Bool) (inet inet6 : Option ℕ) (lines : List Line) → FitsLine plan plan6 at (command_line quiet number inet inet6) → Fits plan plan6 (record { inet = behind at.inet inet; inet6 = behind at.inet6 inet6 }) lines → Fits plan plan6 at (command_line quiet number inet inet6 ∷ lines)
+  then_fits true inet inet6 lines fits later = (fits, later)
+  then_fits false inet inet6 lines fits later = (fits, later)
+
+then_rises : (below number : ℕ) (quiet : Bool) (inet inet6 : Option ℕ) (lines : List Line) → below < number → Rises number lines → Rises below (command_line quiet number inet inet6 ∷ lines)
+then_rises below number true inet inet6 lines more rises = (more, rises)
+then_rises below number false inet inet6 lines more rises = (more, rises)
+
+-- ---- every script of the grammar
+
+abbrev lengths : Plans → Positions
+lengths plans = record { inet = length plans.inet; inet6 = length plans.inet6 }
+
+-- what the lines from a number on give, behind these plans
+pub record Follows (at : ℕ) (plans : Plans) (script : Reading) : Type 0 where
+  pub more : List (Command 32)
+  pub more6 : List (Command 128)
+  pub inet : script.inet ≡ plans.inet ++ more
+  pub inet6 : script.inet6 ≡ plans.inet6 ++ more6
+  pub few : length script.lines ≤ LINES_MAX + 1 - at
+  pub rises : (below : ℕ) → below < at → Rises below script.lines
+  pub fits : Fits script.inet script.inet6 (lengths plans) script.lines
+
+-- the same of an answer that is a script
+abbrev IfFollows : ℕ → Plans → Result Reading LineFault → Type 0
+IfFollows at plans (Ok script) = Follows at plans script
+IfFollows at plans (Err fault) = Unit {0}
+
+behind_line : (at : ℕ) (plans : Plans) (asked : Asked) (more : Reading) → IsAskedAt at asked → Follows (at + 1) (plans_behind plans asked) more → Follows at plans (record more { lines = entries_of at plans asked ++ more.lines })
+behind_line at plans Nothing more is r =
+    record { more = r.more; more6 = r.more6; inet = r.inet; inet6 = r.inet6; few = omega (arith, r.few); rises = λ below h. r.rises below (omega arith); fits = r.fits }
+behind_line at plans (Inet c) more is r =
+    let longer : length (plans.inet ++ c ∷ []) ≡ length plans.inet + 1 = length-append plans.inet (c ∷ []) in
+    let later = rw longer at r.fits in
+    let found = seam plans.inet r.more more.inet c r.inet in
+    record {
+      more = c ∷ r.more;
+      more6 = r.more6;
+      inet = r.inet ∙ append_assoc plans.inet (c ∷ []) r.more;
+      inet6 = r.inet6;
+      few = omega (arith, r.few);
+      rises = λ below h. then_rises below at (is_quiet c) (Some (length plans.inet)) None more.lines h (r.rises at (omega arith));
+      fits = then_fits more.inet more.inet6 (lengths plans) at (is_quiet c) (Some (length plans.inet)) None more.lines (line_fits more.inet more.inet6 (lengths plans) at (length plans.inet) c is.1 refl found) later;
+    }
+behind_line at plans (Inet6 c) more is r =
+    let longer : length (plans.inet6 ++ c ∷ []) ≡ length plans.inet6 + 1 = length-append plans.inet6 (c ∷ []) in
+    let later = rw longer at r.fits in
+    let found = seam plans.inet6 r.more6 more.inet6 c r.inet6 in
+    record {
+      more = r.more;
+      more6 = c ∷ r.more6;
+      inet = r.inet;
+      inet6 = r.inet6 ∙ append_assoc plans.inet6 (c ∷ []) r.more6;
+      few = omega (arith, r.few);
+      rises = λ below h. then_rises below at (is_quiet c) None (Some (length plans.inet6)) more.lines h (r.rises at (omega arith));
+      fits = then_fits more.inet more.inet6 (lengths plans) at (is_quiet c) None (Some (length plans.inet6)) more.lines (line_fits6 more.inet more.inet6 (lengths plans) at (length plans.inet6) c is.1 refl found) later;
+    }
+behind_line at plans (Both s) more is r =
+    let c : Command 32 = shared_command s in
+    let c6 : Command 128 = shared_command s in
+    let longer : length (plans.inet ++ shared_command s ∷ []) ≡ length plans.inet + 1 = length-append plans.inet (shared_command s ∷ []) in
+    let longer6 : length (plans.inet6 ++ shared_command s ∷ []) ≡ length plans.inet6 + 1 = length-append plans.inet6 (shared_command s ∷ []) in
+    let later = rw (longer, longer6) at r.fits in
+    let found = seam plans.inet r.more more.inet c r.inet in
+    let found6 = seam plans.inet6 r.more6 more.inet6 c6 r.inet6 in
+    record {
+      more = c ∷ r.more;
+      more6 = c6 ∷ r.more6;
+      inet = r.inet ∙ append_assoc plans.inet (c ∷ []) r.more;
+      inet6 = r.inet6 ∙ append_assoc plans.inet6 (c6 ∷ []) r.more6;
+      few = omega (arith, r.few);
+      rises = λ below h. then_rises below at (is_quiet c) (Some (length plans.inet)) (Some (length plans.inet6)) more.lines h (r.rises at (omega arith));
+      fits = then_fits more.inet more.inet6 (lengths plans) at (is_quiet c) (Some (length plans.inet)) (Some (length plans.inet6)) more.lines (both_fit more.inet more.inet6 (lengths plans) at (length plans.inet) (length plans.inet6) s refl refl found found6) later;
+    }
+behind_line at plans (Get4 addr flow) more is r =
+    record { more = r.more; more6 = r.more6; inet = r.inet; inet6 = r.inet6; few = omega (arith, r.few); rises = λ below h. (h, r.rises at (omega arith)); fits = (refl, r.fits) }
+behind_line at plans (Get6 addr flow) more is r =
+    record { more = r.more; more6 = r.more6; inet = r.inet; inet6 = r.inet6; few = omega (arith, r.few); rises = λ below h. (h, r.rises at (omega arith)); fits = (refl, r.fits) }
+
+behind_answer : (at : ℕ) (plans : Plans) (asked : Result Asked Reason) (below : Plans → Result Reading LineFault) (script : Reading) → IfOk asked (IsAskedAt at) → ((behind : Plans) (more : Reading) → below behind ≡ Ok more → Follows (at + 1) behind more) → then_lines at plans asked below ≡ Ok script → Follows at plans script
+behind_answer at plans (Err reason) below script is later e = cc
+behind_answer at plans (Ok asked) below script is later e = below_line (below (plans_behind plans asked)) (later (plans_behind plans asked)) e
+  where
+    below_line : (r : Result Reading LineFault) → ((more : Reading) → r ≡ Ok more → Follows (at + 1) (plans_behind plans asked) more) → with_front (entries_of at plans asked) r ≡ Ok script → Follows at plans script
+    below_line (Err fault) later e = cc
+    below_line (Ok more) later e = subst (λ (o : Result Reading LineFault). IfFollows at plans o) e (behind_line at plans asked more is (later more refl))
+
+pub lines_follow : (at : ℕ) (plans : Plans) (texts : List (List ℕ)) (script : Reading) → lines_from at plans texts ≡ Ok script → Follows at plans script
+lines_follow at plans [] script e =
+    subst (λ (o : Result Reading LineFault). IfFollows at plans o) e
+    (record { more = []; more6 = []; inet = sym (append-nil plans.inet); inet6 = sym (append-nil plans.inet6); few = omega arith; rises = λ below h. tt; fits = (refl, refl) })
+lines_follow at plans (text ∷ texts) script e =
+    let later = λ (behind : Plans) (more : Reading) (f : lines_from (at + 1) behind texts ≡ Ok more). lines_follow (at + 1) behind texts more f in
+    behind_answer at plans (asked_of at text) (λ behind. lines_from (at + 1) behind texts) script (asked_at at text) later e
+
+pub is_script : (texts : List (List ℕ)) (script : Reading) → lines_from 1 no_plans texts ≡ Ok script → IsScript script
+is_script texts script e =
+    let r = lines_follow 1 no_plans texts script e in
+    record { few = omega (arith, r.few); rises = r.rises 0 (omega arith); fits = r.fits }
+
+-- the script that a reader has where no line is left
+pub read_is_script : (texts rest : List (List ℕ)) (number : ℕ) (plans : Plans) (front : List Line) (script : Reading) → with_front front (lines_from number plans rest) ≡ lines_from 1 no_plans texts → rest ≡ []
+    → script.inet ≡ plans.inet → script.inet6 ≡ plans.inet6 → script.lines ≡ front → IsScript script
+read_is_script texts rest number plans front script so_far ended inet inet6 lines =
+    let read : List Line → Result Reading LineFault = λ l. Ok (record { inet = plans.inet; inet6 = plans.inet6; lines = l }) in
+    let whole : lines_from 1 no_plans texts ≡ read front = sym so_far ∙ ap (λ r. with_front front (lines_from number plans r)) ended ∙ ap read (append-nil front) in
+    let is = is_script texts (record { inet = plans.inet; inet6 = plans.inet6; lines = front }) whole in
+    record { few = rw lines is.few; rises = rw lines is.rises; fits = rw (inet, inet6, lines) is.fits }
+
+-- ---- for a walk over the lines of a script
+
+-- the line of a number, and the lines behind it, from positions that the lines fit
+pub fits_step : (plan : List (Command 32)) (plan6 : List (Command 128)) (at : Positions) (lines : List Line) (i : ℕ) (here : Line) → slice_get lines i ≡ Some here → Fits plan plan6 at (drop i lines) → FitsLine plan plan6 at here × Fits plan plan6 (positions_behind at here) (drop (i + 1) lines)
+fits_step plan plan6 at lines i here e fits =
+    let first = drop_more lines i here (slice_get_within lines i here e) in
+    let same = get_or_from_slice_get lines i here here e in
+    let at_first = rw (first, same) at fits in
+    (at_first.0, at_first.1)
+
+-- the position of a command is inside its plan
+pub has_at_inside : {w : ℕ} (plan : List (Command w)) (pos : ℕ) (test : Command w → Bool) → HasAt plan pos test → pos < length plan
+has_at_inside {w} plan pos test has = there (slice_get plan pos) refl has
+  where
+    there : (o : Option (Command w)) → slice_get plan pos ≡ o → MatchOption o ⊥ (λ c. test c ≡ true) → pos < length plan
+    there None e has = absurd has
+    there (Some c) e has = slice_get_within plan pos c e
+
+-- a line's commands are there
+line_has : (script : Reading) (at : Positions) (here : Line) → FitsLine script.inet script.inet6 at here → HasCommands script here
+line_has script at (line.Change number (Some pos) None) fits = (has_at_inside script.inet pos (λ c. not (is_quiet c)) fits.1, tt)
+line_has script at (line.Change number None (Some pos)) fits = (tt, has_at_inside script.inet6 pos (λ c. not (is_quiet c)) fits.1)
+line_has script at (line.Change number (Some pos) (Some pos6)) fits = (slice_get_within script.inet pos _ fits.2.inet, slice_get_within script.inet6 pos6 _ fits.2.inet6)
+line_has script at (line.Change number None None) fits = absurd fits
+line_has script at (line.Quiet number (Some pos) None) fits = (has_at_inside script.inet pos is_algo fits.1, tt)
+line_has script at (line.Quiet number None (Some pos)) fits = (tt, has_at_inside script.inet6 pos is_algo fits.1)
+line_has script at (line.Quiet number (Some pos) (Some pos6)) fits = (slice_get_within script.inet pos _ fits.2.inet, slice_get_within script.inet6 pos6 _ fits.2.inet6)
+line_has script at (line.Quiet number None None) fits = absurd fits
+line_has script at (line.Get4 number addr flow before) fits = tt
+line_has script at (line.Get6 number addr flow before) fits = tt
+
+-- so are those of each line, from positions that the lines fit
+pub each_has : (script : Reading) (at : Positions) (lines : List Line) (i : ℕ) (here : Line) → Fits script.inet script.inet6 at lines → slice_get lines i ≡ Some here → HasCommands script here
+each_has script at [] i here fits e = cc
+each_has script at (first ∷ lines) zero here fits e = let same : first ≡ here = cc in subst (HasCommands script) same (line_has script at first fits.0)
+each_has script at (first ∷ lines) (suc i) here fits e = each_has script (positions_behind at first) lines i here fits.1 e
