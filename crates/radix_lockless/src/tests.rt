@@ -25,7 +25,7 @@ const INNER_16: Parts = (0x0a01_0000, 16);
 const INNER_24: Parts = (0x0a01_0200, 24);
 
 /// How many edits are drawn.
-const EDITS: usize = 300;
+const EDITS: usize = 5_000;
 
 fn prefix<const W: u32>(parts: Parts) -> Option<Prefix<W>>
     requires { (1 ≤ W) × (W ≤ 128) }
