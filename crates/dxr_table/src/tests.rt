@@ -13,7 +13,7 @@ use std::sync::ledger::{Blank, Ledger};
 use std::test::Fail;
 
 /// How many routes the two modules are compared on.
-const ROUTES: usize = 2_000;
+const ROUTES: usize = 20_000;
 
 /// The first address of chunk 10.1.
 const CHUNK: u128 = 0x0a01_0000;
