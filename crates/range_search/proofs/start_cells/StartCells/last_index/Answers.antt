@@ -9,4 +9,4 @@ returns-in-Err-clause-last g c =
     let narrow = c.self.inside.narrow in
     let same = sym c.self.view_is ∙ either_narrow narrow c.self.inside.wide (λ e. c.if-len-eq0.false (c.len-len.ensures ∙ e)) in
     let begun : c.at.result.now.0 ≤ c.args.value = omega arith in
-    subst (λ cells. IsLast (λ (n : ℕ). n) cells c.args.value c.at.result.now.1) (sym same) (all_begin narrow c.args.value c.at.result.now (ap (λ n. slice_get narrow (n - 1)) (sym c.len-len.ensures) ∙ c.at.ensures.value) begun)
+    subst (λ cells. IsLast (λ (n : ℕ). n) cells c.args.value c.at.result.now.1) (sym same) (all_begin (λ (n : ℕ). n) narrow c.args.value c.at.result.now (ap (λ n. slice_get narrow (n - 1)) (sym c.len-len.ensures) ∙ c.at.ensures.value) begun)
