@@ -11,7 +11,7 @@ use crate::routes::{count_nodes, count_starts, draw_routes, draw_view};
 use dxr_table::DxrTable;
 use module_trait::{Module, ScanTable, Steps};
 use prefix_width::{Addr, Prefix};
-use radix_lockless::{Node, RadixTable};
+use radix_lockless::RadixTable;
 use range_search::RangeTable;
 use std::sync::ledger::{Blank, Ledger};
 use std::time::CpuClock;
@@ -162,7 +162,7 @@ fn print_module_times<const W: u32, R: Print + AllocGlobal + CpuClock, L: Ledger
     let bytes = cells.saturating_mul(range_cell_size::<W>());
     print_time::<W, RangeTable<W>, R, L>(rt, ("range", kind), rows, addrs, bytes, steps)?;
     let nodes = count_nodes(rt.alloc(), rows)?;
-    let bytes = nodes.saturating_mul(size_of::<Node<W>>());
+    let bytes = nodes.saturating_mul(RadixTable::<W>::node_size());
     print_time::<W, RadixTable<W>, R, L>(rt, ("radix", kind), rows, addrs, bytes, steps)?;
     if rows.len() > PLAIN_ROUTES {
         return Ok(());
@@ -214,10 +214,11 @@ fn print_time<const W: u32, M: Module<W>, R: Print + AllocGlobal + CpuClock, L: 
     let family = family_name::<W>();
     let (count, lookups, sum) = (rows.len(), addrs.len(), figures.sum);
     let (nanos, nano_tenths) = tenths(figures.lookups.as_nanos(), lookups);
+    let (copied, copied_tenths) = tenths(figures.copied.as_nanos(), lookups);
     let (millis, micros) = thousandths(figures.build.as_micros());
     let (bytes, byte_tenths) = tenths(bytes as u128, count);
     match println!(rt;
-        "{module} {family} {kind} {count}: {nanos}.{nano_tenths} ns a lookup, {millis}.{micros:03} ms to build, {bytes}.{byte_tenths} bytes a route, sum {sum} of {lookups}"
+        "{module} {family} {kind} {count}: {nanos}.{nano_tenths} ns a lookup, {copied}.{copied_tenths} in a copy, {millis}.{micros:03} ms to build, {bytes}.{byte_tenths} bytes a route, sum {sum} of {lookups}"
     ) {
         Ok(()) => Ok(()),
         Err(error) => Err(print_fault(&error)),

@@ -1,9 +1,10 @@
 -- Nodes by key: a store, its frozen copies, and the pages that they share.
-use Rattle.std.specs.Prelude.{◌≡◌, ◌≢◌, ℕ, ◌+◌, ◌*◌, ◌/◌, ◌%◌, ◌<◌, ◌≤◌, List, [], length, map, Option, Some, None, Bool, true, false, slice_index_or, refl, Vec}
+use Rattle.std.specs.Prelude.{◌≡◌, ◌≢◌, ℕ, ◌+◌, ◌-◌, ◌*◌, ◌/◌, ◌%◌, ◌<◌, ◌≤◌, List, [], length, map, Option, Some, None, Bool, true, false, if◌then◌else◌, nat_le, slice_index_or, refl, Vec}
 use Rattle.std.specs.declared.sync.Arc.{Arc}
 use Rattle.std.specs.declared.alloc.Global.{Global}
 use Rattle.std.specs.Arc.{arc_value}
 use Rattle.std.specs.Coded.{Coded, code_by, coded×, coded_ℕ, coded_list, coded_option}
+use Rattle.module_trait.specs.declared.nodes.TheConstants.{KEYS_MAX}
 use Rattle.module_trait.specs.declared.pages.TheConstants.{PAGE}
 
 -- what a store is seen as: a node or nothing at each key from 0 on, and how many more nodes fit with no allocation
@@ -19,6 +20,10 @@ store_code {T} code =
     (λ s. (s.slots, s.spare))
     (λ p. record { slots = p.0; spare = p.1 })
     (λ _. refl)
+
+-- how many more nodes fit a slab of this capacity with so many in it: none where a key could pass the greatest
+abbrev pub room_in : ℕ → ℕ → ℕ
+room_in capacity len = if nat_le capacity KEYS_MAX then capacity - len else 0
 
 -- a clone equals what it was made from
 abbrev pub IsExact : {T : Type 0} → (T → T → Type 0) → Type 0

@@ -46,6 +46,15 @@ impl<T> NodeReads for FrozenNodes<T> {
 }
 
 impl<T> FrozenNodes<T> {
+    /// No node at all.
+    pub fn new(alloc: Global) -> FrozenNodes<T>
+        ensures { (key : ℕ) → frozen_at result key ≡ None }
+    {
+        FrozenNodes {
+            pages: Vec::new(alloc),
+        }
+    }
+
     /// The nodes of these pages.
     pub(crate) fn of(pages: Vec<Arc<Page<T>>>) -> FrozenNodes<T>
         ensures { result ≡ contents pages.items }

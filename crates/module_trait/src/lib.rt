@@ -24,7 +24,7 @@ pub use edit::{Edit, Verdict, read_edits};
 pub use frozen::FrozenNodes;
 pub use module::Module;
 pub use node_reads::NodeReads;
-pub use nodes::Nodes;
+pub use nodes::{KEYS_MAX, Nodes};
 pub use scan::ScanTable;
 pub use std::alloc::AllocError as OutOfMemory;
 pub use steps::Steps;

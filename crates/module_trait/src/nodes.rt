@@ -1,4 +1,4 @@
-ghost use Rattle.std.specs.Prelude.{◌≡◌, ℕ, ◌+◌, ◌≤◌, [], Some, None, IsSome, IfOk, OnOk};
+ghost use Rattle.std.specs.Prelude.{◌≡◌, ℕ, ◌+◌, ◌<◌, ◌≤◌, [], Some, None, IsSome, IfOk, OnOk};
 ghost use Rattle.module_trait.specs.Nodes.{node_at, frozen_at, contents, Updates, IsExact, IsKept};
 
 use crate::OutOfMemory;
@@ -11,6 +11,9 @@ use std::alloc::Global;
 use std::marker::Model;
 use std::sync::Arc;
 use std::sync::ledger::Ledger;
+
+/// Every key is below this, so that 32 bits hold it and one number of 32 bits is no key.
+pub const KEYS_MAX: usize = 4_294_967_295;
 
 /// A store of nodes under keys that it picks. Beside the nodes stand the pages of the last
 /// snapshot, which copies share, and a mark for each page that a write has touched since.
@@ -25,16 +28,15 @@ pub struct Nodes<T> {
 }
 
 impl<T> Model for Nodes<T> {
-    ghost use Rattle.std.specs.Prelude.{◌-◌};
     ghost use Rattle.slab.specs.Slab.{slab_len};
-    ghost use Rattle.module_trait.specs.Nodes.{Store, store_code, IsKept, contents};
+    ghost use Rattle.module_trait.specs.Nodes.{Store, store_code, IsKept, contents, room_in};
     ghost use Rattle.module_trait.specs.declared.pages.TheConstants.{PAGE};
 
     ghost Value = { Store T };
 
     ghost coded = { store_code T.code };
 
-    ghost view = { λ n. record { slots = n.slab.slots; spare = n.slab.capacity - slab_len n.slab } };
+    ghost view = { λ n. record { slots = n.slab.slots; spare = room_in n.slab.capacity (slab_len n.slab) } };
 
     ghost invariant = { λ n. IsKept PAGE n.slab.slots (contents n.pages.items) n.marks.items n.last };
 }
@@ -73,13 +75,17 @@ impl<T: Drop> Nodes<T> {
         }
     }
 
-    /// Makes room for `n` more nodes.
+    /// Makes room for `n` more nodes. There is none past [`KEYS_MAX`], which is told as want of
+    /// memory.
     pub fn reserve(&mut self, n: usize) -> Result<(), OutOfMemory>
         ensures room { OnOk result (n ≤ self.new.spare) }
         ensures slots { self.new.slots ≡ self.old.slots }
-        ensures spare { self.old.spare ≤ self.new.spare }
+        ensures spare { OnOk result (self.old.spare ≤ self.new.spare) }
     {
         self.slab.reserve(n)?;
+        if self.slab.capacity() > KEYS_MAX {
+            return Err(OutOfMemory);
+        }
         Ok(())
     }
 
@@ -87,6 +93,7 @@ impl<T: Drop> Nodes<T> {
     pub fn put(&mut self, node: T) -> usize
         requires { 1 ≤ self.old.spare }
         ensures vacant { node_at self.old.slots result ≡ None }
+        ensures bound { result < KEYS_MAX }
         ensures updates { Updates self.old.slots self.new.slots result (Some node) }
         ensures spare { self.new.spare + 1 ≡ self.old.spare }
     {
@@ -111,7 +118,7 @@ impl<T: Drop> Nodes<T> {
         requires { IsSome (node_at self.old.slots key) }
         ensures value { node_at self.old.slots key ≡ Some result }
         ensures updates { Updates self.old.slots self.new.slots key None }
-        ensures spare { self.new.spare ≡ self.old.spare + 1 }
+        ensures spare { self.old.spare ≤ self.new.spare }
     {
         let node = self.slab.remove(key);
         mark(&mut self.marks, key);

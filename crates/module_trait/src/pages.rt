@@ -1,4 +1,4 @@
-ghost use Rattle.std.specs.Prelude.{◌≡◌, ℕ, ◌+◌, ◌*◌, ◌/◌, ◌^◌, ◌<◌, ◌≤◌, length, OnOk, IfOk, option_copied, slice_set, true};
+ghost use Rattle.std.specs.Prelude.{◌≡◌, ℕ, ◌+◌, ◌*◌, ◌/◌, ◌^◌, ◌<◌, ◌≤◌, None, length, OnOk, IfOk, option_copied, slice_set, true};
 ghost use Rattle.module_trait.specs.Nodes.{node_at, paged_at, contents, cells_of, IsExact, IsKept, IsPageOf, AreUnmarked, SameNodes};
 
 use crate::OutOfMemory;
@@ -6,10 +6,11 @@ use slab::Slab;
 use std::alloc::Global;
 use std::sync::Arc;
 
-/// How many keys share a page.
-pub(crate) const PAGE: usize = 256;
+/// How many keys share a page. A copy raises one count for each page and makes those anew that were
+/// written to, so fewer and longer pages cost a small table more and a large one less.
+pub(crate) const PAGE: usize = 2_048;
 
-/// What the keys of a page have.
+/// What the keys of a page have. The last page ends with the last key in use.
 pub(crate) type Page<T> = Vec<Option<T>>;
 
 /// The node at a key, if there is one.
@@ -46,19 +47,33 @@ fn slot_at<T: Clone + Drop>(slab: &Slab<T>, key: usize) -> Result<Option<T>, Out
     }
 }
 
-// A page of the slots of its keys.
+// How many slots of the page's keys there are up to the last key in use.
+fn slots_in(page: usize, last: usize) -> usize
+    requires { page ≤ last / PAGE }
+    ensures most { result ≤ PAGE }
+    ensures fits { page * PAGE + result ≤ 2 ^ 64 }
+    ensures all { result < PAGE → last < page * PAGE + result }
+{
+    let past = last - page * PAGE;
+    if past < PAGE { past + 1 } else { PAGE }
+}
+
+// A page of the slots of its keys, up to the last key in use.
 fn page_at<T: Clone + Drop>(
     alloc: Global,
     slab: &Slab<T>,
     page: usize,
+    last: usize,
 ) -> Result<Vec<Option<T>>, OutOfMemory>
     requires exact { IsExact T.is_clone }
-    requires fits { page * PAGE + PAGE ≤ 2 ^ 64 }
+    requires within { page ≤ last / PAGE }
+    requires above { (key : ℕ) → last < key → node_at slab.now.slots key ≡ None }
     ensures { IfOk result (λ cells. IsPageOf PAGE slab.now.slots page cells.items) }
 {
     let base = page * PAGE;
-    let mut cells = Vec::with_capacity(alloc, PAGE)?;
-    for i in 0..PAGE {
+    let count = slots_in(page, last);
+    let mut cells = Vec::with_capacity(alloc, count)?;
+    for i in 0..count {
         cells.push(slot_at(slab, base + i)?)?;
     }
     Ok(cells)
@@ -79,7 +94,7 @@ pub(crate) fn renew<T: Clone + Drop>(
 {
     for page in 0..marks.len() {
         if marks[page] {
-            pages[page] = Arc::new(alloc, page_at(alloc, slab, page)?)?;
+            pages[page] = Arc::new(alloc, page_at(alloc, slab, page, last)?)?;
             marks[page] = false;
         }
     }
@@ -103,7 +118,7 @@ pub(crate) fn extend<T: Clone + Drop>(
 {
     for page in pages.len()..last / PAGE + 1 {
         marks.reserve(1)?;
-        pages.push(Arc::new(alloc, page_at(alloc, slab, page)?)?)?;
+        pages.push(Arc::new(alloc, page_at(alloc, slab, page, last)?)?)?;
         marks.push_reserved(false);
     }
     Ok(())
@@ -126,7 +141,7 @@ fn page_of<T: Clone + Drop>(
     if page < marks.len() && !marks[page] {
         return Ok(Arc::try_clone(&pages[page])?);
     }
-    Ok(Arc::new(alloc, page_at(alloc, slab, page)?)?)
+    Ok(Arc::new(alloc, page_at(alloc, slab, page, last)?)?)
 }
 
 /// Pages of all keys in use, shared where they are not marked.

@@ -7,6 +7,7 @@ pub mod PutLemmas
 pub mod ReplaceLemmas
 pub mod RewriteLemmas
 pub mod SpotLemmas
+pub mod StoreLemmas
 pub mod SwapLemmas
 pub mod TableLemmas
 pub mod TreeLemmas

@@ -39,7 +39,7 @@ fn add_leaf<const W: u32>(trie: &mut Trie<W>, spot: &Spot<W>, prefix: &Prefix<W>
     requires room { 2 ≤ trie.old.nodes.spare }
     ensures { IsChange trie.old trie.new prefix.now (Some index) }
 {
-    let key = trie.nodes.put(Node {
+    let key = trie.nodes.put(&Node {
         prefix: *prefix,
         index: Some(index),
         left: None,
@@ -67,7 +67,7 @@ fn add_over<const W: u32>(
     let _longest = entry.node.prefix.len();
     let right = entry.node.prefix.addr().bit(prefix.len());
     let node = parted(prefix, Some(index), right, Some(entry.key), None);
-    let key = trie.nodes.put(node);
+    let key = trie.nodes.put(&node);
     relink(trie, &spot.parent, Some(key));
 }
 
@@ -95,13 +95,13 @@ fn add_beside<const W: u32>(
         None => unreachable!(),
     };
     let right = prefix.addr().bit(len);
-    let leaf = trie.nodes.put(Node {
+    let leaf = trie.nodes.put(&Node {
         prefix: *prefix,
         index: Some(index),
         left: None,
         right: None,
     });
     let node = parted(&shared, None, right, Some(leaf), Some(entry.key));
-    let key = trie.nodes.put(node);
+    let key = trie.nodes.put(&node);
     relink(trie, &spot.parent, Some(key));
 }

@@ -8,10 +8,15 @@ mod apart;
 mod edits;
 mod fill;
 mod find;
+mod frozen_store;
+mod key;
 mod node;
+mod packed;
 mod remove;
+mod store;
 mod table;
 mod trie;
+mod word;
 
 pub use node::Node;
 pub use std::alloc::AllocError as OutOfMemory;

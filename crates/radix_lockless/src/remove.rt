@@ -4,6 +4,7 @@ ghost use Rattle.prefix_width.specs.Prefix.{IsBlock};
 ghost use Rattle.module_trait.specs.Nodes.{node_at};
 ghost use Rattle.radix_lockless.specs.Spot.{IsChange, IsFreeAbove, IsSpot};
 
+use crate::key::Key;
 use crate::trie::{Entry, Link, Spot, Trie, relink, set_index, sibling};
 use prefix_width::Prefix;
 
@@ -64,7 +65,7 @@ fn remove_leaf<const W: u32>(trie: &mut Trie<W>, spot: &Spot<W>, entry: &Entry<W
 }
 
 /// Takes a node with at most one child out, and puts the child in its place.
-fn splice<const W: u32>(trie: &mut Trie<W>, spot: &Spot<W>, entry: &Entry<W>, child: Option<usize>)
+fn splice<const W: u32>(trie: &mut Trie<W>, spot: &Spot<W>, entry: &Entry<W>, child: Option<Key>)
     requires spot { IsSpot (node_at trie.old.nodes.slots) trie.old.root entry.now.node.prefix spot.now }
     requires here { spot.now.here ≡ Some entry.now }
     requires child { child ≡ option_or entry.now.node.left entry.now.node.right }

@@ -9,10 +9,11 @@ ghost use Rattle.radix_lockless.specs.Trie.{DifferAtMost};
 use crate::OutOfMemory;
 use crate::edits::apply;
 use crate::fill::filled;
-use crate::find::longest_in;
-use crate::node::Node;
+use crate::frozen_store::FrozenStore;
+use crate::key::Key;
+use crate::store::NodeStore;
 use crate::trie::Trie;
-use module_trait::{Edit, FrozenNodes, Module, RouteView, Steps, Verdict, read_edits};
+use module_trait::{Edit, Module, RouteView, Steps, Verdict, read_edits};
 use prefix_width::{Addr, Prefix};
 use std::alloc::Global;
 use std::marker::Model;
@@ -24,7 +25,8 @@ use std::sync::ledger::Ledger;
 /// given its own by its first change.
 #[derive(Drop)]
 pub struct RadixTable<const W: u32> {
-    form: Form<W>,
+    // Behind a pointer, so that a table is as small as one.
+    form: Box<Form<W>>,
 }
 
 /// The nodes of a table: written to, or a copy that is only read.
@@ -37,8 +39,15 @@ enum Form<const W: u32> {
 /// Nodes that are only read, and the key of the root.
 #[derive(Drop)]
 struct FrozenTrie<const W: u32> {
-    nodes: FrozenNodes<Node<W>>,
-    root: Option<usize>,
+    nodes: FrozenStore<W>,
+    root: Option<Key>,
+}
+
+impl<const W: u32> RadixTable<W> {
+    /// How many bytes a node takes: 16 where its address takes 32 bits, and 32 where it takes more.
+    pub fn node_size() -> usize {
+        NodeStore::<W>::node_size()
+    }
 }
 
 impl<const W: u32> Model for RadixTable<W> {
@@ -47,9 +56,9 @@ impl<const W: u32> Model for RadixTable<W> {
 
     ghost Value = { Linked W };
 
-    ghost view = { λ t. linked_of t.form };
+    ghost view = { λ t. linked_of t.form.value };
 
-    ghost invariant = { λ t. IsSound (linked_of t.form) };
+    ghost invariant = { λ t. IsSound (linked_of t.form.value) };
 }
 
 /// The same nodes at the same keys, to be written to.
@@ -108,21 +117,22 @@ impl<const W: u32> Module<W> for RadixTable<W> {
     ghost preference = { λ routes. if nat_lt routes 100000 then 200 else 100 };
 
     fn empty(alloc: Global) -> Result<Self, OutOfMemory> {
+        let form = Form::Working(Trie::new(alloc));
         Ok(RadixTable {
-            form: Form::Working(Trie::new(alloc)),
+            form: Box::new(alloc, form)?,
         })
     }
 
     fn load(&mut self, alloc: Global, rows: &[(Prefix<W>, u16)]) -> Result<(), OutOfMemory> {
         let trie = filled(alloc, rows)?;
-        self.form = Form::Working(trie);
+        *self.form = Form::Working(trie);
         Ok(())
     }
 
     fn find<L: Ledger>(&self, addr: &Addr<W>, steps: &mut Steps<L>) -> Option<u16> {
-        match &self.form {
-            Form::Working(trie) => longest_in(&trie.nodes, trie.root, addr, steps),
-            Form::Frozen(trie) => longest_in(&trie.nodes, trie.root, addr, steps),
+        match &*self.form {
+            Form::Working(trie) => trie.nodes.longest(trie.root, addr, steps),
+            Form::Frozen(trie) => trie.nodes.longest(trie.root, addr, steps),
         }
     }
 
@@ -147,7 +157,7 @@ impl<const W: u32> Module<W> for RadixTable<W> {
     {
         let _after = edit.after();
         let _len = view.len();
-        make_edits(alloc, &mut self.form, [*edit].as_slice())?;
+        make_edits(alloc, &mut *self.form, [*edit].as_slice())?;
         Ok(Verdict::Done)
     }
 
@@ -170,7 +180,7 @@ impl<const W: u32> Module<W> for RadixTable<W> {
     {
         read_edits(edits);
         let _len = view.len();
-        make_edits(alloc, &mut self.form, edits)?;
+        make_edits(alloc, &mut *self.form, edits)?;
         Ok(Verdict::Done)
     }
 
@@ -178,7 +188,7 @@ impl<const W: u32> Module<W> for RadixTable<W> {
         ensures stands { (rows : List (Block × ℕ)) → IsRadixOf rows self.old → IsRadixOf rows self.new }
         ensures same { self.new ≡ self.old }
     {
-        match &mut self.form {
+        match &mut *self.form {
             Form::Working(trie) => trie.nodes.settle(alloc),
             Form::Frozen(_) => Ok(()),
         }
@@ -190,8 +200,9 @@ impl<const W: u32> Module<W> for RadixTable<W> {
         // The same node at each key.
         ensures same { IfOk result (λ copy. (key : ℕ) → nodes_of copy key ≡ nodes_of self.now key) }
     {
+        let form = frozen(&*self.form, alloc)?;
         Ok(RadixTable {
-            form: frozen(&self.form, alloc)?,
+            form: Box::new(alloc, form)?,
         })
     }
 

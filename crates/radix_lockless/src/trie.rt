@@ -4,8 +4,10 @@ ghost use Rattle.module_trait.specs.Nodes.{node_at};
 ghost use Rattle.radix_lockless.specs.Trie.{StandsFor};
 ghost use Rattle.radix_lockless.specs.Spot.{IsChange, IsSpot, IsLinkSet, linked, leads_to, parted, sibling};
 
+use crate::key::Key;
 use crate::node::Node;
-use module_trait::{NodeReads, Nodes, Steps};
+use crate::store::NodeStore;
+use module_trait::Steps;
 use prefix_width::Prefix;
 use std::alloc::Global;
 use std::sync::ledger::Ledger;
@@ -13,8 +15,8 @@ use std::sync::ledger::Ledger;
 /// Nodes that may be written to, and the key of the root.
 #[derive(Drop)]
 pub(crate) struct Trie<const W: u32> {
-    pub(crate) nodes: Nodes<Node<W>>,
-    pub(crate) root: Option<usize>,
+    pub(crate) nodes: NodeStore<W>,
+    pub(crate) root: Option<Key>,
 }
 
 impl<const W: u32> Trie<W> {
@@ -25,7 +27,7 @@ impl<const W: u32> Trie<W> {
         ensures { StandsFor (node_at result.nodes.slots) result.root [] }
     {
         Trie {
-            nodes: Nodes::new(alloc),
+            nodes: NodeStore::new(alloc),
             root: None,
         }
     }
@@ -34,14 +36,14 @@ impl<const W: u32> Trie<W> {
 /// A node and its key.
 #[derive(Clone, Copy)]
 pub(crate) struct Entry<const W: u32> {
-    pub(crate) key: usize,
+    pub(crate) key: Key,
     pub(crate) node: Node<W>,
 }
 
 /// A node, its key, and the side on which it links to what is below.
 #[derive(Clone, Copy)]
 pub(crate) struct Link<const W: u32> {
-    pub(crate) key: usize,
+    pub(crate) key: Key,
     pub(crate) node: Node<W>,
     pub(crate) right: bool,
 }
@@ -63,8 +65,8 @@ fn leads_to<const W: u32>(p: &Prefix<W>, q: &Prefix<W>) -> bool
 
 /// Goes down to the prefix, past each shorter one that covers it.
 pub(crate) fn spot_of<const W: u32, L: Ledger>(
-    nodes: &Nodes<Node<W>>,
-    root: Option<usize>,
+    nodes: &NodeStore<W>,
+    root: Option<Key>,
     prefix: &Prefix<W>,
     steps: &mut Steps<L>,
 ) -> Spot<W>
@@ -76,7 +78,7 @@ pub(crate) fn spot_of<const W: u32, L: Ledger>(
     let mut parent: Option<Link<W>> = None;
     let mut at = root;
     while let Some(key) = at {
-        let node = *nodes.at(key, steps);
+        let node = nodes.at(key, steps);
         if !leads_to(&node.prefix, prefix) {
             let here = Some(Entry { key, node });
             return Spot {
@@ -98,7 +100,7 @@ pub(crate) fn spot_of<const W: u32, L: Ledger>(
 }
 
 /// The node with its link set to another key.
-fn linked<const W: u32>(link: &Link<W>, at: Option<usize>) -> Node<W>
+fn linked<const W: u32>(link: &Link<W>, at: Option<Key>) -> Node<W>
     ensures { result ≡ linked link.now at }
 {
     if link.right {
@@ -115,7 +117,7 @@ fn linked<const W: u32>(link: &Link<W>, at: Option<usize>) -> Node<W>
 }
 
 /// The key on the other side of a link.
-pub(crate) fn sibling<const W: u32>(link: &Link<W>) -> Option<usize>
+pub(crate) fn sibling<const W: u32>(link: &Link<W>) -> Option<Key>
     ensures { result ≡ sibling link.now }
 {
     if link.right {
@@ -130,8 +132,8 @@ pub(crate) fn parted<const W: u32>(
     prefix: &Prefix<W>,
     index: Option<u16>,
     right: bool,
-    on_side: Option<usize>,
-    beside: Option<usize>,
+    on_side: Option<Key>,
+    beside: Option<Key>,
 ) -> Node<W>
     ensures { result ≡ parted prefix.now index right on_side beside }
 {
@@ -153,14 +155,14 @@ pub(crate) fn parted<const W: u32>(
 }
 
 /// Lets the node above, or the root, lead to another key.
-pub(crate) fn relink<const W: u32>(trie: &mut Trie<W>, above: &Option<Link<W>>, at: Option<usize>)
+pub(crate) fn relink<const W: u32>(trie: &mut Trie<W>, above: &Option<Link<W>>, at: Option<Key>)
     requires { IfSome above.now (λ link. IsSome (node_at trie.old.nodes.slots link.key)) }
     ensures link { IsLinkSet trie.old trie.new above.now at }
     ensures spare { trie.new.nodes.spare ≡ trie.old.nodes.spare }
 {
     match above {
         None => trie.root = at,
-        Some(link) => trie.nodes.set(link.key, linked(link, at)),
+        Some(link) => trie.nodes.set(link.key, &linked(link, at)),
     }
 }
 
@@ -180,5 +182,5 @@ pub(crate) fn set_index<const W: u32>(
         index,
         ..entry.node
     };
-    trie.nodes.set(entry.key, node);
+    trie.nodes.set(entry.key, &node);
 }

@@ -3,13 +3,13 @@ use Rattle.radix_lockless.proofs.PlanLemmas.{IsPlan, differ_more, differ_write, 
 use Rattle.radix_lockless.proofs.remove.prune.Goals as goal
 
 pub take-requires : goal.take-requires
-take-requires g c = entry_there c.args.trie.now c.args.entry.now.node.prefix c.args.spot.now c.args.entry.now c.requires.spot c.requires.here
+take-requires g c = (lit< tt, entry_there c.args.trie.now c.args.entry.now.node.prefix c.args.spot.now c.args.entry.now c.requires.spot c.requires.here)
 
 pub take-requires-2 : goal.take-requires-2
 take-requires-2 g c =
     let old = c.args.trie.now in
     let first = record old { nodes = c.take.new.self } in
-    prune_there old first c.args.spot.now c.args.entry.now c.args.link.now c.requires.spot c.requires.here c.requires.above c.take.ensures.updates
+    (lit< tt, prune_there old first c.args.spot.now c.args.entry.now c.args.link.now c.requires.spot c.requires.here c.requires.above c.take.ensures.updates)
 
 pub relink-requires : goal.relink-requires
 relink-requires g c =

@@ -3,7 +3,7 @@ use Rattle.radix_lockless.proofs.PlanLemmas.{differ_weaker, differ_write, entry_
 use Rattle.radix_lockless.proofs.remove.splice.Goals as goal
 
 pub take-requires : goal.take-requires
-take-requires g c = entry_there c.args.trie.now c.args.entry.now.node.prefix c.args.spot.now c.args.entry.now c.requires.spot c.requires.here
+take-requires g c = (lit< tt, entry_there c.args.trie.now c.args.entry.now.node.prefix c.args.spot.now c.args.entry.now c.requires.spot c.requires.here)
 
 pub relink-requires : goal.relink-requires
 relink-requires g c =
