@@ -24,7 +24,7 @@ pub blocks : (version found : ℕ) → 0 < found → found + 4 ≤ version + 2 �
 blocks version found l h = grind (arith, nat_tests)
 
 module _ {Q C : Type 0} (s t : Seat (Option C) (View Q)) (z : TableId) (q : Q) (readers version passed : ℕ) (was : IsControlSeat s z q readers version passed) (same : t.table_id ≡ s.table_id) where
-  module _ (found : ℕ) (did : scans 4 s.me found t.me) where
+  module _ (lawful : Q → ℕ → C → Type 0) (found : ℕ) (did : scans lawful 4 s.me found t.me) where
     abbrev d : ControlOwn
     d = control_own s
 

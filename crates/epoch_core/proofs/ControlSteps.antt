@@ -22,7 +22,7 @@ use Rattle.epoch_core.specs.World as w
 use Rattle.epoch_core.specs.World.{World, Spot, home, control}
 use Rattle.epoch_core.specs.Step.{all_passed, may_pass, passed_reader, scanned_reader, enabled, effect, step}
 use Rattle.epoch_core.specs.Sound.{Sound, PhaseFits, ReaderSound}
-use Rattle.epoch_core.specs.Rule.{slot_of, Owners, EndedFit, RoleFits, KeyFits, PlaceHas, EpochRule}
+use Rattle.epoch_core.specs.Rule.{slot_of, Owners, EndedFit, RoleFits, KeyFits, PlaceHas, HeldWord, EpochRule}
 use Rattle.epoch_core.specs.Follows.{Follows}
 use Rattle.epoch_core.specs.Plays.{Mine, view, ControlGoes, scans, publishes, Each, scanned_control, published_control, filled_places}
 use Rattle.epoch_core.proofs.ReaderLemmas.{replaced_at_here, replaced_at_else, replaced_at_all, kept, passed_phase_fits, not_next_bank, scanned_reader_kept}
@@ -187,11 +187,12 @@ module _ {Q C : Type 0} (K : ℕ) (two : 2 ≤ K) (lawful : Q → ℕ → C → 
         k.7,
         (λ q l. (owns q ∙ (k.8 q l).0, (k.8 q l).1)),
         ended_fit_still x x' h.owners owns d.ended k.9,
+        k.10,
       )
       _ (ap (λ q. view q (Control (record d { scans = d.scans + 1; found = (r, n); passed = passed' }))) same) in
       (done.0, done.1 ∙ takes_effect K x (event.Scan r) (may_scan x r inside unpassed))
 
-  pub scanning : (slots id : ℕ) (me : Mine Q C) (d : ControlOwn) → me.0.role ≡ Control d → d.passed < d.readers → Follows K lawful key slots id me (1 + d.passed) (λ n. n) (scans K me) (event.Scan d.passed)
+  pub scanning : (slots id : ℕ) (me : Mine Q C) (d : ControlOwn) → me.0.role ≡ Control d → d.passed < d.readers → Follows K lawful key slots id me (1 + d.passed) (λ n. n) (scans lawful K me) (event.Scan d.passed)
   scanning slots id me d is more s h _ at _ =
       let x = h.world in
       let r : ℕ = d.passed in
@@ -204,16 +205,16 @@ module _ {Q C : Type 0} (K : ℕ) (two : 2 ≤ K) (lawful : Q → ℕ → C → 
       let word : n ≡ y.ann = h.ann_is r inside in
       let sound = kept K x.cur y (h.sound.each_reader r inside) in
       let version : d.version ≡ x.cur = k.2 in
-      let few = h.few in
-      let deep = h.deep in
+      let few = h.few in let deep = h.deep in
+      let held : HeldWord K lawful me.0 (1 + r) n = (s, subst (λ q. EpochRule K lawful q s) (sym seen.0) h, id, at, refl) in
       let b : ℕ = (x.cur + 1) % K in
       let i : ℕ = slot_of b r in
       let near : b < K = mod-lt (x.cur + 1) (omega arith) in
       let low : n ≤ d.version + 1 = let l = ann_low K x.cur y (h.sound.each_reader r inside) in omega arith in
       let test : may_pass K d.version n ≡ may_pass K x.cur y.ann = λ j. may_pass K (version j) (word j) in
       let unpassed : y.passed ≡ false = k.3 r inside ∙ not_below r in
-      let go : (t : Bool) → may_pass K d.version n ≡ t → (v : View Q) × (a : Act (Option C)) × Valid s.homes me.1 a × ((h' : Rule (stepped s (1 + r) n id me.1 v a)) × (h'.world ≡ step K x (event.Scan r))) × scans K me n (v, carried_after me.1 a) =
-      λ t. elim t as (λ t. may_pass K d.version n ≡ t → (v : View Q) × (a : Act (Option C)) × Valid s.homes me.1 a × ((h' : Rule (stepped s (1 + r) n id me.1 v a)) × (h'.world ≡ step K x (event.Scan r))) × scans K me n (v, carried_after me.1 a)) [
+      let go : (t : Bool) → may_pass K d.version n ≡ t → (v : View Q) × (a : Act (Option C)) × Valid s.homes me.1 a × ((h' : Rule (stepped s (1 + r) n id me.1 v a)) × (h'.world ≡ step K x (event.Scan r))) × scans lawful K me n (v, carried_after me.1 a) =
+      λ t. elim t as (λ t. may_pass K d.version n ≡ t → (v : View Q) × (a : Act (Option C)) × Valid s.homes me.1 a × ((h' : Rule (stepped s (1 + r) n id me.1 v a)) × (h'.world ≡ step K x (event.Scan r))) × scans lawful K me n (v, carried_after me.1 a)) [
         | true ↦ λ e.
             let pass = sym test ∙ e in
             let free : y.spot b ≡ home = sound.at_home b near (λ z. not_next_bank K x.cur y two sound b y.own.phase (passed_phase_fits K x.cur y two sound y.own.phase refl pass) z refl) (λ z. true≢false (sym z.0 ∙ unpassed)) in
@@ -230,7 +231,7 @@ module _ {Q C : Type 0} (K : ℕ) (two : 2 ≤ K) (lawful : Q → ℕ → C → 
                   (λ j a l. subst (PlaceHas lawful key (y.spot j) (y.held j)) (sym (set_else s.homes i (slot_of j r) none (λ e. a (omega arith)))) (h.each_place r j inside l)) c m)
                   (λ q c l a. set_else s.homes i (slot_of c q) none (λ e. a (omega arith))) (lt_here r) (λ q a. lt_more q r a),
               control_goes me (v, (i, it.0) ∷ me.1) d (scanned_control K n) _ is (ap (λ (u : ControlOwn). view me.0.key (Control u)) own_is)
-                  (low, (λ _. (it.0, λ t. (slot_of ((sym version t + 1) % K) r, it.0) ∷ me.1)), λ f. absurd (true≢false (sym e ∙ f))),
+                  (low, (λ _. (it.0, λ t. (slot_of ((sym version t + 1) % K) r, it.0) ∷ me.1)), (λ f. absurd (true≢false (sym e ∙ f))), held),
             )
         | false ↦ λ e.
             let pass = sym test ∙ e in
@@ -241,7 +242,7 @@ module _ {Q C : Type 0} (K : ℕ) (two : 2 ≤ K) (lawful : Q → ℕ → C → 
               keeps,
               tt,
               scan_step s h id me d s.homes r y seen.0 k more (ap (λ (t : Bool). if t then passed_reader K x.cur y else y) pass) refl refl refl (λ c m. h.each_place r c inside m) (λ q c l a. refl) (k.3 r inside) (λ q a. refl),
-              control_goes me (v, me.1) d (scanned_control K n) _ is (ap (λ (u : ControlOwn). view me.0.key (Control u)) own_is) (low, (λ f. absurd (true≢false (sym f ∙ e))), λ _. refl),
+              control_goes me (v, me.1) d (scanned_control K n) _ is (ap (λ (u : ControlOwn). view me.0.key (Control u)) own_is) (low, (λ f. absurd (true≢false (sym f ∙ e))), (λ _. refl), held),
             )
       ] in
       go (may_pass K d.version n) refl
@@ -278,7 +279,7 @@ module _ {Q C : Type 0} (K : ℕ) (two : 2 ≤ K) (lawful : Q → ℕ → C → 
       (Some got.0, ap (λ (z : ℕ). get_elem? homes' (slot_of z r)) (e ∙ same_bank) ∙ got.1, (got.0, refl, got.2))))
       (λ e. subst (λ (u : Spot × Option ℕ). PlaceHas lawful key u.0 u.1 (get_elem? homes' (slot_of c r))) (λ i. (sym (replaced_at_else y.spot b' c home e) i, sym (replaced_at_else y.held b' c (Some (x.cur + 1)) e) i))
       (subst (PlaceHas lawful key (y.spot c) (y.held c)) (sym (back_else s.homes b 0 cs (slot_of c r) (λ q _ u z. e (omega arith)))) (h.each_place r c l m))))
-      (k.0, k.1, ap (λ (c : ℕ). c + 1) version, (λ r l. lt_zero r), k.4, k.5, k.6, k.7, k.8, ended_fit_still x x' h.owners (λ r. refl) d.ended k.9) v (ap (λ q. view q (Control (published_control d))) seen.0) in (
+      (k.0, k.1, ap (λ (c : ℕ). c + 1) version, (λ r l. lt_zero r), k.4, k.5, k.6, k.7, k.8, ended_fit_still x x' h.owners (λ r. refl) d.ended k.9, k.10) v (ap (λ q. view q (Control (published_control d))) seen.0) in (
         v,
         gives_all cs,
         back_valid s.homes me.1 cs,
@@ -287,9 +288,9 @@ module _ {Q C : Type 0} (K : ℕ) (two : 2 ≤ K) (lawful : Q → ℕ → C → 
       )
 
   -- the steps, as the table asks for them, where the word and the operand are equal to those above
-  pub scanning_at : (slots id i : ℕ) (me : Mine Q C) (d : ControlOwn) → me.0.role ≡ Control d → d.passed < d.readers → i ≡ 1 + d.passed → Allows Rule slots id me i (λ n. n) (scans K me)
+  pub scanning_at : (slots id i : ℕ) (me : Mine Q C) (d : ControlOwn) → me.0.role ≡ Control d → d.passed < d.readers → i ≡ 1 + d.passed → Allows Rule slots id me i (λ n. n) (scans lawful K me)
   scanning_at slots id i me d is more e =
-      subst (λ (u : ℕ). Allows Rule slots id me u (λ n. n) (scans K me)) (sym e) (allows K two lawful key slots id me (1 + d.passed) (λ n. n) (scans K me) (event.Scan d.passed) (scanning slots id me d is more))
+      subst (λ (u : ℕ). Allows Rule slots id me u (λ n. n) (scans lawful K me)) (sym e) (allows K two lawful key slots id me (1 + d.passed) (λ n. n) (scans lawful K me) (event.Scan d.passed) (scanning slots id me d is more))
 
   pub publishing_at : (slots id n : ℕ) (me : Mine Q C) (d : ControlOwn) (cs : List C) (b : ℕ) → me.0.role ≡ Control d → d.passed ≡ d.readers → me.1 ≡ filled_places b 0 cs → length cs ≡ d.readers
       → Each (lawful me.0.key n) cs → n < 4294967296 → n ≡ d.version + 1 → b ≡ n % K → Allows Rule slots id me 0 (λ _. n) (λ _ m'. publishes me m')

@@ -1,4 +1,5 @@
 pub mod BankLemmas
+pub mod ClosingLemmas
 pub mod ControlLemmas
 pub mod ControlSteps
 pub mod PlainLemmas

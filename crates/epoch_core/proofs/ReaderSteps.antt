@@ -89,6 +89,7 @@ module _ {Q C : Type 0} (K : ℕ) (two : 2 ≤ K) (lawful : Q → ℕ → C → 
     k.7,
     (λ q l. (ap (λ (y : w.Reader). y.own) (replaced_at_else x.reader_at r q (f (x.reader_at r)) (λ e. omega arith)) ∙ (k.8 q l).0, (k.8 q l).1)),
     ended_stays x owners r f goes_on d.ended k.9,
+    k.10,
   )
   others_fit x owners me j r f mine low goes_on other same (Note i v) k = k
 
@@ -133,7 +134,7 @@ module _ {Q C : Type 0} (K : ℕ) (two : 2 ≤ K) (lawful : Q → ℕ → C → 
   pub fits_at : (s : St) (h : Rule s) (id : ℕ) (v : View Q) (role : Role) → v.role ≡ role → get_elem? s.views id ≡ some v → KeyFits role (v.key ≡ key) × RoleFits h.world h.owners id role
   fits_at s h id v role is at = subst (λ (z : Role). KeyFits z (v.key ≡ key) × RoleFits h.world h.owners id z) is (h.each_view id v at)
 
-  pub looking : (slots id : ℕ) (me : Mine Q C) (r : ℕ) (o : Own) → me.0.role ≡ Reader r o → o.phase ≡ Idle → Follows K lawful key slots id me 0 (λ n. n) (looks me) (event.Look r)
+  pub looking : (slots id : ℕ) (me : Mine Q C) (r : ℕ) (o : Own) → me.0.role ≡ Reader r o → o.phase ≡ Idle → Follows K lawful key slots id me 0 (λ n. n) (looks lawful K me) (event.Look r)
   looking slots id me r o is out s h _ at _ =
       let x = h.world in
       let y = x.reader_at r in
@@ -154,7 +155,7 @@ module _ {Q C : Type 0} (K : ℕ) (two : 2 ≤ K) (lawful : Q → ℕ → C → 
         keeps,
         tt,
         (done.0, done.1 ∙ takes_effect K x (event.Look r) (may_look x r k.0 idle)),
-        (subst (λ z. z < 4294967296) (sym cur) h.low, refl, reader_goes me (v, me.1) r o (looked_own n o) (λ _ a b. (b ≡ looked_own n a) × (a.seen ≤ n)) is refl (refl, omega arith)),
+        (subst (λ z. z < 4294967296) (sym cur) h.low, refl, reader_goes me (v, me.1) r o (looked_own n o) (λ _ a b. (b ≡ looked_own n a) × (a.seen ≤ n)) is refl (refl, omega arith), (s, subst (λ q. EpochRule K lawful q s) (sym seen.0) h, id, at, refl)),
       )
 
   pub announcing : (slots id : ℕ) (me : Mine Q C) (r : ℕ) (o : Own) → me.0.role ≡ Reader r o → o.phase ≡ Idle → Follows K lawful key slots id me (1 + r) (λ _. o.last + 1) (λ _ m'. announces me m') (event.Announce r)
@@ -235,6 +236,7 @@ module _ {Q C : Type 0} (K : ℕ) (two : 2 ≤ K) (lawful : Q → ℕ → C → 
           subst (λ z. z < 4294967296) (sym cur) h.low,
           reader_goes me (v, (i, Some it.0) ∷ me.1) r o (entered_own n o) (λ z u p. (p ≡ entered_own n u) × (u.seen ≤ n) × ((c : C) × ((i, Some it.0) ∷ me.1 ≡ (slot_of (n % K) z, Some c) ∷ me.1) × lawful me.0.key n c)) is refl
               (refl, omega arith, (it.0, (λ t. (slot_of (sym cur t % K) r, Some it.0) ∷ me.1), subst (λ (u : Q × ℕ). lawful u.0 u.1 it.0) (λ t. (sym seen.0 t, sym cur t)) it.2)),
+          (s, subst (λ q. EpochRule K lawful q s) (sym seen.0) h, id, at, refl),
         ),
       )
 
@@ -282,8 +284,8 @@ module _ {Q C : Type 0} (K : ℕ) (two : 2 ≤ K) (lawful : Q → ℕ → C → 
   allows slots id me i f then e go s h deep at small = let r = go s h deep at small in (r.0, r.1, r.2, r.3.0, r.4)
 
   -- the steps, as the table asks for them, where the word and the operand are equal to those above
-  pub may_load : (slots id : ℕ) (me : Mine Q C) (r : ℕ) (o : Own) → me.0.role ≡ Reader r o → o.phase ≡ Idle → Allows Rule slots id me 0 (λ n. n) (looks me)
-  may_load slots id me r o is out = allows slots id me 0 (λ n. n) (looks me) (event.Look r) (looking slots id me r o is out)
+  pub may_load : (slots id : ℕ) (me : Mine Q C) (r : ℕ) (o : Own) → me.0.role ≡ Reader r o → o.phase ≡ Idle → Allows Rule slots id me 0 (λ n. n) (looks lawful K me)
+  may_load slots id me r o is out = allows slots id me 0 (λ n. n) (looks lawful K me) (event.Look r) (looking slots id me r o is out)
 
   pub announcing_at : (slots id i n : ℕ) (me : Mine Q C) (r : ℕ) (o : Own) → me.0.role ≡ Reader r o → o.phase ≡ Idle → i ≡ 1 + r → n ≡ o.last + 1 → Allows Rule slots id me i (λ _. n) (λ _ m'. announces me m')
   announcing_at slots id i n me r o is out a b =

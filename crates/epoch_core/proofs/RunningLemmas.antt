@@ -6,6 +6,7 @@ use Rattle.epoch_core.specs.Follows.{JoinFollows}
 use Rattle.epoch_core.specs.Plays.{learnt, ending}
 use Rattle.epoch_core.specs.Running.{EachStepFollows}
 use Rattle.epoch_core.specs.Step.{step}
+use Rattle.epoch_core.proofs.ClosingLemmas.{closing, none_left}
 use Rattle.epoch_core.proofs.ControlSteps.{scanning, publishing}
 use Rattle.epoch_core.proofs.ReaderSteps.{looking, announcing, entering, leaving}
 use Rattle.epoch_core.proofs.SeatSteps.{opens, tells, learns, ends}
@@ -25,4 +26,6 @@ each_step_follows K two lawful key = record {
   make_seat = λ id v d is more. opens K two lawful key id v d is more;
   end_seat = λ id r other v u spent d o is reads out gone.
       subst (λ (z : Role × Role). JoinFollows K lawful key id v other u (record v { role = ending z.0 z.1 }) spent (λ w. w)) (λ i. (sym is i, sym reads i)) (ends K two lawful key id v d other u r o spent is reads out gone);
+  close = λ slots id me d is. closing K two lawful key slots id me d is;
+  none_left = λ s h id v d at is many. none_left K two lawful key s h id v d at is many;
 }

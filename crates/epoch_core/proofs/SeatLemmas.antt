@@ -1,5 +1,5 @@
 -- What a seat is after a step, from what the step tells.
-use Rattle.std.proofs.Common.{◌≡◌, ℕ, ◌+◌, ◌*◌, ◌%◌, ◌<◌, ◌≤◌, List, [], ◌∷◌, Option, Some, sym, ap, ◌∙◌, subst, arith}
+use Rattle.std.proofs.Common.{◌≡◌, ℕ, ◌%◌, ◌<◌, ◌≤◌, List, [], ◌∷◌, Option, Some, sym, ap, ◌∙◌, subst, arith}
 use Rattle.atomic_table.specs.Table.{rest}
 use Rattle.atomic_table.specs.Seated.{TableId}
 use Rattle.atomic_table.specs.declared.shared.Seat.{Seat}
@@ -8,7 +8,7 @@ use Rattle.epoch_core.specs.declared.view.Role.{Role}
 use Rattle.epoch_core.specs.declared.view.Role.TheVariants.{Reader}
 use Rattle.epoch_core.specs.declared.view.View.{View}
 use Rattle.epoch_core.specs.Step.{looked_own, announced_own, entered_own, left_own}
-use Rattle.epoch_core.specs.Rule.{IsSized, slot_of, own, own_of, as_reader}
+use Rattle.epoch_core.specs.Rule.{IsSized, slot_of, own, own_of, as_reader, HeldWord}
 use Rattle.epoch_core.specs.Plays.{Mine, view, looks, announces, enters, leaves}
 use Rattle.epoch_core.specs.SeatViews.{IsReadersSeat}
 
@@ -30,6 +30,10 @@ module _ {Q C : Type 0} where
   pub role_of : (s : Seat (Option C) (View Q)) (z : TableId) (q : Q) (r : ℕ) (cs : List (ℕ × Option C)) → IsReadersSeat s z q r cs → s.me.0.role ≡ Reader r (own s)
   role_of s z q r cs was = ap (λ (u : Seat (Option C) (View Q)). u.me.0.role) was.role
 
+  -- what a word held while the seat was so, it held while the seat was that reader's with its numbers
+  pub held_by : (K word n : ℕ) (lawful : Q → ℕ → C → Type 0) (s : Seat (Option C) (View Q)) (z : TableId) (q : Q) (r : ℕ) (cs : List (ℕ × Option C)) → IsReadersSeat s z q r cs → HeldWord K lawful s.me.0 word n → HeldWord K lawful (view q (Reader r (own s))) word n
+  held_by K word n lawful s z q r cs was = subst (λ (v : View Q). HeldWord K lawful v word n) (λ i. view (was.keyed i) (role_of s z q r cs was i))
+
   pub carries : (s : Seat (Option C) (View Q)) (z : TableId) (q : Q) (r : ℕ) (cs : List (ℕ × Option C)) → IsReadersSeat s z q r cs → s.me.1 ≡ cs
   carries s z q r cs was = ap (λ (u : Seat (Option C) (View Q)). u.me.1) was.role
 
@@ -50,8 +54,8 @@ module _ {Q C : Type 0} where
       }
 
   module _ (s t : Seat (Option C) (View Q)) (z : TableId) (q : Q) (r : ℕ) (cs : List (ℕ × Option C)) (was : IsReadersSeat s z q r cs) (same : t.table_id ≡ s.table_id) where
-    pub after_looks : (found : ℕ) → looks s.me found t.me → After s t z q r cs (looked_own found (own s)) × (own s).seen ≤ found × found < 4294967296
-    after_looks found did = let went = did.2 r (own s) (role_of s z q r cs was) in
+    pub after_looks : (lawful : Q → ℕ → C → Type 0) (K found : ℕ) → looks lawful K s.me found t.me → After s t z q r cs (looked_own found (own s)) × (own s).seen ≤ found × found < 4294967296
+    after_looks lawful K found did = let went = did.2 r (own s) (role_of s z q r cs was) in
         (after s t z q r cs cs (looked_own found (own s)) was same (went.1 ∙ ap (λ (p : Own). view s.me.0.key (Reader r p)) went.2.0) (did.1 ∙ carries s z q r cs was), went.2.1, did.0)
 
     pub after_announces : announces s.me t.me → After s t z q r cs (announced_own (own s))
@@ -72,8 +76,8 @@ module _ {Q C : Type 0} where
     after_exchange i new did = after s t z q r cs ((i, new) ∷ rest cs) (own s) was same (ap (λ (m : Mine Q C). m.0) did ∙ ap (λ (o : Role). view s.me.0.key o) (role_of s z q r cs was))
         (ap (λ (m : Mine Q C). m.1) did ∙ ap (λ l. (i, new) ∷ rest l) (carries s z q r cs was))
 
-  pub renumber : (s : Seat (Option C) (View Q)) (z : TableId) (q : Q) (r b k : ℕ) (x : Option C) → IsReadersSeat s z q r ((64 * b + k, x) ∷ []) → k ≡ r → IsReadersSeat s z q r ((slot_of b r, x) ∷ [])
-  renumber s z q r b k x was e = let P : ℕ → Type 0 = λ n. IsReadersSeat s z q r ((64 * b + n, x) ∷ []) in subst P e was
+  pub renumber : (s : Seat (Option C) (View Q)) (z : TableId) (q : Q) (r i j : ℕ) (x : Option C) → IsReadersSeat s z q r ((i, x) ∷ []) → i ≡ j → IsReadersSeat s z q r ((j, x) ∷ [])
+  renumber s z q r i j x was e = let P : ℕ → Type 0 = λ n. IsReadersSeat s z q r ((n, x) ∷ []) in subst P e was
 
 module _ {C : Type 0} where
   -- what `exchange` asks

@@ -1,6 +1,7 @@
 -- Seats are made of the control's, and taken in, under the rule of the table.
-use Rattle.std.proofs.Common.{◌≡◌, ◌≢◌, ◌⊎◌, ℕ, zero, suc, ◌+◌, ◌<◌, ◌≤◌, true, List, [], ◌∷◌, ◌++◌, length, set, Option, Some, None, refl, sym, ap, ◌∙◌, subst, inl, inr, ⊎_elim, arith, length-set}
+use Rattle.std.proofs.Common.{◌≡◌, ◌≢◌, ◌⊎◌, ℕ, zero, suc, ◌+◌, ◌<◌, ◌≤◌, true, false, true≢false, List, [], ◌∷◌, ◌++◌, length, set, Option, Some, None, refl, sym, ap, ◌∙◌, subst, inl, inr, ⊎_elim, arith, length-set}
 use Rattle.std.specs.Prelude.{unwrap_or}
+use Rattle.std.proofs.lemmas.Bool.Decides.{nat_tests}
 use mathlib.Core.Option.{some, some-injective, some-ne-none}
 use lib.ListN.{get_elem?}
 use Rattle.atomic_table.specs.Table.{State, Splits, Joins}
@@ -16,7 +17,7 @@ use Rattle.epoch_core.specs.World as w
 use Rattle.epoch_core.specs.World.{World, first_own}
 use Rattle.epoch_core.specs.Step.{replaced_at, moved, told_reader, told_own, enabled, effect, step}
 use Rattle.epoch_core.specs.Sound.{NoteFits, Sound}
-use Rattle.epoch_core.specs.Rule.{slot_of, Owners, EndedFit, RoleFits, KeyFits, PlaceHas, EpochRule}
+use Rattle.epoch_core.specs.Rule.{slot_of, Owners, is_among, EndedFit, RoleFits, KeyFits, PlaceHas, EpochRule}
 use Rattle.epoch_core.specs.Follows.{SplitFollows, JoinFollows}
 use Rattle.epoch_core.specs.Plays.{seating, seated, telling, noted, learnt, ending, in_role}
 use Rattle.epoch_core.proofs.ReaderLemmas.{replaced_at_here, replaced_at_else, replaced_at_all, told_reader_kept}
@@ -37,6 +38,13 @@ may_join x r k v l idle made note = rw (lt_is r x.readers l, idle, lt_is k x.mad
 ended_more : (x : World) (owners owners' : Owners) → ((q : ℕ) → owners.ended q ≡ true → owners'.ended q ≡ true) → (ps : List (ℕ × Own)) → EndedFit x owners ps → EndedFit x owners' ps
 ended_more x owners owners' more [] k = tt
 ended_more x owners owners' more (p ∷ ps) k = (more p.0 k.0, k.1, k.2, ended_more x owners owners' more ps k.3)
+
+-- a reader that goes on is none of those that have ended
+not_among : (x : World) (owners : Owners) (r : ℕ) → owners.ended r ≡ false → (ps : List (ℕ × Own)) → EndedFit x owners ps → is_among r ps ≡ false
+not_among x owners r goes_on [] k = refl
+not_among x owners r goes_on (p ∷ ps) k =
+    let apart : p.0 ≢ r = λ e. true≢false (sym k.0 ∙ (ap owners.ended e ∙ goes_on)) in
+    let rest = not_among x owners r goes_on ps k.3 in grind (arith, nat_tests)
 
 -- and when notes are made or taken
 ended_beside : (x x' : World) (owners : Owners) → x'.reader_at ≡ x.reader_at → (ps : List (ℕ × Own)) → EndedFit x owners ps → EndedFit x' owners ps
@@ -92,7 +100,7 @@ module _ {Q C : Type 0} (K : ℕ) (two : 2 ≤ K) (lawful : Q → ℕ → C → 
       let owners' : Owners = record owners { reader_seat = replaced_at owners.reader_seat d.opened n; opened = owners.opened + 1 } in
       let first = k.8 d.opened (omega arith) in
       split_step s h id (in_role seating v) (in_role seated v) x owners' refl refl refl h.sound
-      (subst (λ (z : Role). KeyFits (seating z) (v.key ≡ key) × RoleFits x owners' id (seating z)) (sym is) (say.0, (k.0, k.1, k.2, k.3, k.4, k.5, k.6, ap (λ (c : ℕ). c + 1) begun, (λ q l. k.8 q (omega arith)), ended_more x owners owners' (λ q t. t) d.ended k.9)))
+      (subst (λ (z : Role). KeyFits (seating z) (v.key ≡ key) × RoleFits x owners' id (seating z)) (sym is) (say.0, (k.0, k.1, k.2, k.3, k.4, k.5, k.6, ap (λ (c : ℕ). c + 1) begun, (λ q l. k.8 q (omega arith)), ended_more x owners owners' (λ q t. t) d.ended k.9, k.10)))
       (subst (λ (z : Role). KeyFits (seated z) (v.key ≡ key) × RoleFits x owners' n (seated z)) (sym is) (say.0, (omega arith, replaced_at_here owners.reader_seat d.opened d.opened n refl, first.0, omega arith, first.1)))
       (λ j u other low it. (it.0, go d.opened n x owners j id begun k.0 other u.role it.1))
     where
@@ -118,7 +126,7 @@ module _ {Q C : Type 0} (K : ℕ) (two : 2 ≤ K) (lawful : Q → ℕ → C → 
       let x' : World = effect K x event.Split in
       let done = split_step s h id (in_role telling v) (in_role noted v) x' owners' refl refl refl (effect_sound K two x event.Split h.sound refl)
       (subst (λ (z : Role). KeyFits (telling z) (v.key ≡ key) × RoleFits x' owners' id (telling z)) (sym is)
-      (say.0, (k.0, k.1, k.2, k.3, k.4, k.5, ap (λ (c : ℕ). c + 1) made, k.7, k.8, ended_more x' owners owners' (λ q t. t) d.ended (ended_beside x x' owners refl d.ended k.9))))
+      (say.0, (k.0, k.1, k.2, k.3, k.4, k.5, ap (λ (c : ℕ). c + 1) made, k.7, k.8, ended_more x' owners owners' (λ q t. t) d.ended (ended_beside x x' owners refl d.ended k.9), k.10)))
       (subst (λ (z : Role). KeyFits (noted z) (v.key ≡ key) × RoleFits x' owners' n (noted z)) (sym is)
       (say.0, (omega arith, replaced_at_here x.notes x.made d.made (Some x.cur) made ∙ ap (λ (c : ℕ). Some c) (sym version), replaced_at_here owners.note_seat x.made d.made n made)))
       (λ j u other low it. (it.0, go n x owners j id k.0 other u.role it.1)) in
@@ -177,7 +185,7 @@ module _ {Q C : Type 0} (K : ℕ) (two : 2 ≤ K) (lawful : Q → ℕ → C → 
       quiet : (x : World) (owners : Owners) (j other r i nv : ℕ) → (owners.note_seat i ≢ j) → (role : Role) → RoleFits (moved x r (told_reader nv)) owners j role → RoleFits (record (moved x r (told_reader nv)) { notes = replaced_at x.notes i None }) owners j role
       quiet x owners j other r i nv far Spent k = tt
       quiet x owners j other r i nv far (Reader q o) k = k
-      quiet x owners j other r i nv far (Control d) k = (k.0, k.1, k.2, k.3, k.4, k.5, k.6, k.7, k.8, ended_beside (moved x r (told_reader nv)) (record (moved x r (told_reader nv)) { notes = replaced_at x.notes i None }) owners refl d.ended k.9)
+      quiet x owners j other r i nv far (Control d) k = (k.0, k.1, k.2, k.3, k.4, k.5, k.6, k.7, k.8, ended_beside (moved x r (told_reader nv)) (record (moved x r (told_reader nv)) { notes = replaced_at x.notes i None }) owners refl d.ended k.9, k.10)
       quiet x owners j other r i nv far (Note a b) k = (k.0, replaced_at_else x.notes i a None (λ e. far (ap owners.note_seat (sym e) ∙ k.2)) ∙ k.1, k.2)
 
   -- the control takes a reader's seat in: nothing in the world changes
@@ -220,6 +228,7 @@ module _ {Q C : Type 0} (K : ℕ) (two : 2 ≤ K) (lawful : Q → ℕ → C → 
                   k.7,
                   (λ q l. ((k.8 q l).0, replaced_at_else owners.ended r q true (λ e. omega arith) ∙ (k.8 q l).1)),
                   (replaced_at_here owners.ended r r true refl, reader_fits.2, out, ended_more x owners owners' more d.ended k.9),
+                  (reader_fits.0, not_among x owners r reader_fits.4 d.ended k.9, k.10),
                 ),
               ))
               (λ j z far it apart'. let b = h.each_view j z it in (b.0, go x owners j other id r reader_fits.1 k.0 apart' far z.role b.1)) j z it far);

@@ -54,7 +54,7 @@ module _ {Q C : Type 0} (lawful : Q → ℕ → C → Type 0) (key : Q) where
     where
       go : (j : ℕ) (v : View Q) → get_elem? (opening_view key n ∷ []) j ≡ some v → KeyFits v.role (v.key ≡ key) × RoleFits (w.opening n) record { reader_seat = λ _. 0; note_seat = λ _. 0; control_seat = 0; opened = 0; ended = λ _. false } j v.role
       go zero v e = subst (λ (u : View Q). KeyFits u.role (u.key ≡ key) × RoleFits (w.opening n) record { reader_seat = λ _. 0; note_seat = λ _. 0; control_seat = 0; opened = 0; ended = λ _. false } 0 u.role) (some-injective _ _ e)
-          (refl, (refl, refl, refl, (λ r l. lt_zero r), refl, refl, refl, refl, (λ q l. (refl, refl)), tt))
+          (refl, (refl, refl, refl, (λ r l. lt_zero r), refl, refl, refl, refl, (λ q l. (refl, refl)), tt, tt))
       go (suc j) v e = absurd (some-ne-none v (sym e))
 
 pub all_zero : (n i : ℕ) → get_or {A = ℕ} (replicate n 0) i 0 ≡ 0

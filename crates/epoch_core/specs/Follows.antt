@@ -11,14 +11,18 @@ use Rattle.epoch_core.specs.Plays.{Mine}
 use Rattle.epoch_core.specs.World.{World}
 
 -- whatever the table is when the word i becomes f of what it was, the seat can step so that `then` holds, and the shown
--- world goes where the event e takes it
-abbrev pub Follows : {Q C : Type 0} → ℕ → (Q → ℕ → C → Type 0) → Q → ℕ → ℕ → Mine Q C → ℕ → (ℕ → ℕ) → (ℕ → Mine Q C → Type 0) → Event → Type 0
-Follows {Q} {C} K lawful key slots id me i f then e =
+-- world w goes to `goes w`
+abbrev pub StepFollows : {Q C : Type 0} → ℕ → (Q → ℕ → C → Type 0) → Q → ℕ → ℕ → Mine Q C → ℕ → (ℕ → ℕ) → (ℕ → Mine Q C → Type 0) → (World → World) → Type 0
+StepFollows {Q} {C} K lawful key slots id me i f then goes =
     (s : State (Option C) (View Q)) (h : EpochRule K lawful key s)
     → length s.homes ≡ slots → get_elem? s.views id ≡ some me.0 → slice_index s.words i < 18446744073709551616
     → (v : View Q) × (a : Act (Option C)) × Valid s.homes me.1 a
-    × ((h' : EpochRule K lawful key (stepped s i (f (slice_index s.words i)) id me.1 v a)) × (h'.world ≡ step K h.world e))
+    × ((h' : EpochRule K lawful key (stepped s i (f (slice_index s.words i)) id me.1 v a)) × (h'.world ≡ goes h.world))
     × then (slice_index s.words i) (v, carried_after me.1 a)
+
+-- the same, where the event e takes the shown world
+abbrev pub Follows : {Q C : Type 0} → ℕ → (Q → ℕ → C → Type 0) → Q → ℕ → ℕ → Mine Q C → ℕ → (ℕ → ℕ) → (ℕ → Mine Q C → Type 0) → Event → Type 0
+Follows K lawful key slots id me i f then e = StepFollows K lawful key slots id me i f then (λ w. step K w e)
 
 -- whatever the table is, the seat id of the view v can be cut in two views, and the shown world w goes to `goes w`
 abbrev pub SplitFollows : {Q C : Type 0} → ℕ → (Q → ℕ → C → Type 0) → Q → ℕ → View Q → View Q → View Q → (World → World) → Type 0

@@ -1,6 +1,7 @@
 pub mod Closing
 pub mod Follows
 pub mod Laws
+pub mod Moments
 pub mod Plain
 pub mod Plays
 pub mod Rule

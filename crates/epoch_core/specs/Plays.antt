@@ -3,12 +3,13 @@ use Rattle.std.specs.Prelude.{◌≡◌, ℕ, ◌+◌, ◌%◌, ◌<◌, ◌≤�
 use Rattle.atomic_table.specs.Table.{Me, rest}
 use Rattle.epoch_core.specs.declared.view.Own.{Own}
 use Rattle.epoch_core.specs.declared.view.ControlOwn.{ControlOwn}
+use Rattle.epoch_core.specs.declared.view.Phase.TheVariants.{Idle}
 use Rattle.epoch_core.specs.declared.view.Role.{Role}
 use Rattle.epoch_core.specs.declared.view.Role.TheVariants.{Spent, Reader, Control, Note}
 use Rattle.epoch_core.specs.declared.view.View.{View}
 use Rattle.epoch_core.specs.Step.{may_pass, looked_own, announced_own, entered_own, left_own, told_own}
 use Rattle.epoch_core.specs.World.{first_own}
-use Rattle.epoch_core.specs.Rule.{slot_of}
+use Rattle.epoch_core.specs.Rule.{slot_of, AreOnce, HeldWord}
 
 -- what a seat knows, and the slots that it has in hand
 abbrev pub Mine : Type 0 → Type 0 → Type 0
@@ -23,19 +24,23 @@ module _ {Q C : Type 0} where
   abbrev pub ReaderGoes : Mine Q C → Mine Q C → (ℕ → Own → Own → Type 0) → Type 0
   ReaderGoes m m' next = (r : ℕ) (o : Own) → m.0.role ≡ Reader r o → (p : Own) × (m'.0 ≡ view m.0.key (Reader r p)) × next r o p
 
-  -- a look finds a version that is at least what was seen
-  abbrev pub looks : Mine Q C → ℕ → Mine Q C → Type 0
-  looks m found m' = (found < 4294967296) × (m'.1 ≡ m.1) × ReaderGoes m m' (λ r o p. (p ≡ looked_own found o) × (o.seen ≤ found))
+  -- a look finds what word 0 holds, a version that is at least what was seen
+  abbrev pub looks : (Q → ℕ → C → Type 0) → ℕ → Mine Q C → ℕ → Mine Q C → Type 0
+  looks lawful K m found m' =
+      (found < 4294967296) × (m'.1 ≡ m.1) × ReaderGoes m m' (λ r o p. (p ≡ looked_own found o) × (o.seen ≤ found))
+      × HeldWord K lawful m.0 0 found
 
   -- an announcement
   abbrev pub announces : Mine Q C → Mine Q C → Type 0
   announces m m' = (m'.1 ≡ m.1) × ReaderGoes m m' (λ r o p. p ≡ announced_own o)
 
-  -- an enter takes the reader's place in the bank of the version found, with a value that is lawful for that version
+  -- an enter takes the reader's place in the bank of the version that word 0 holds, with a value that is lawful for that
+  -- version
   abbrev pub enters : (Q → ℕ → C → Type 0) → ℕ → Mine Q C → ℕ → Mine Q C → Type 0
   enters lawful K m found m' =
       (found < 4294967296)
       × ReaderGoes m m' (λ r o p. (p ≡ entered_own found o) × (o.seen ≤ found) × ((c : C) × (m'.1 ≡ (slot_of (found % K) r, Some c) ∷ m.1) × lawful m.0.key found c))
+      × HeldWord K lawful m.0 0 found
 
   -- a leave gives the place back
   abbrev pub leaves : Mine Q C → Mine Q C → Type 0
@@ -70,11 +75,12 @@ module _ {Q C : Type 0} where
   ControlGoes m m' next also = (d : ControlOwn) → m.0.role ≡ Control d → (m'.0 ≡ view m.0.key (Control (next d))) × also d
 
   -- a scan takes the reader's place in the next version's bank where the reader may be passed
-  abbrev pub scans : ℕ → Mine Q C → ℕ → Mine Q C → Type 0
-  scans K m found m' =
+  abbrev pub scans : (Q → ℕ → C → Type 0) → ℕ → Mine Q C → ℕ → Mine Q C → Type 0
+  scans lawful K m found m' =
       ControlGoes m m' (scanned_control K found) (λ d. (found ≤ d.version + 1)
       × (may_pass K d.version found ≡ true → (y : Option C) × (m'.1 ≡ (slot_of ((d.version + 1) % K) d.passed, y) ∷ m.1))
-      × (may_pass K d.version found ≡ false → m'.1 ≡ m.1))
+      × (may_pass K d.version found ≡ false → m'.1 ≡ m.1)
+      × HeldWord K lawful m.0 (1 + d.passed) found)
 
   -- a publish gives all places back
   abbrev pub publishes : Mine Q C → Mine Q C → Type 0
@@ -107,6 +113,18 @@ learnt role other = role
 abbrev pub ending : Role → Role → Role
 ending (Control d) (Reader r o) = Control (record d { ended = (r, o) ∷ d.ended })
 ending role other = role
+
+-- each reader of the list stands outside, and has seen no version above this
+abbrev pub HaveSeen : ℕ → List (ℕ × Own) → Type 0
+HaveSeen version [] = Unit {0}
+HaveSeen version (p ∷ ps) = (p.1.phase ≡ Idle) × (p.1.seen ≤ version) × HaveSeen version ps
+
+-- the control that has taken readers' seats in looks at the version published last: each of them was another's
+abbrev pub closes : {Q C : Type 0} → (Q → ℕ → C → Type 0) → ℕ → Mine Q C → ℕ → Mine Q C → Type 0
+closes lawful K m found m' =
+    (m'.1 ≡ m.1)
+    × ControlGoes m m' (λ d. d) (λ d. (found ≡ d.version) × AreOnce d.readers d.ended × HaveSeen d.version d.ended)
+    × HeldWord K lawful m.0 0 found
 
 -- the view whose role is changed so
 abbrev pub in_role : {Q : Type 0} → (Role → Role) → View Q → View Q

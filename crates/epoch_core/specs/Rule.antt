@@ -1,7 +1,7 @@
 -- The rule of the running table: the world that its words, its seats' views and the slots that are out show is sound, and
 -- each place at home has a lawful value. C is a handle of a value, Q a key, and K the number of banks. The place of
 -- reader r in bank b is the slot 64 b + r.
-use Rattle.std.specs.Prelude.{◌≡◌, ℕ, ◌+◌, ◌*◌, ◌<◌, ◌≤◌, Bool, true, false, nat_lt, List, [], ◌∷◌, length, slice_index, Option, Some, None}
+use Rattle.std.specs.Prelude.{◌≡◌, ℕ, ◌+◌, ◌*◌, ◌<◌, ◌≤◌, Bool, true, false, ◌||◌, ◌==◌, nat_lt, List, [], ◌∷◌, length, slice_index, Option, Some, None}
 use mathlib.Core.Option.{some}
 use mathlib.Core.Option as maybe
 use lib.ListN.{get_elem?}
@@ -33,6 +33,16 @@ pub record Owners : Type 0 where
   -- whether the control has taken a reader's seat in
   pub ended : ℕ → Bool
 
+-- whether the reader is one of the list
+abbrev pub is_among : ℕ → List (ℕ × Own) → Bool
+is_among r [] = false
+is_among r (p ∷ ps) = (p.0 == r) || is_among r ps
+
+-- each reader of the list is below n, and is there once
+abbrev pub AreOnce : ℕ → List (ℕ × Own) → Type 0
+AreOnce n [] = Unit {0}
+AreOnce n (p ∷ ps) = (p.0 < n) × (is_among p.0 ps ≡ false) × AreOnce n ps
+
 -- each reader of the list has ended and stands outside, with these numbers
 abbrev pub EndedFit : World → Owners → List (ℕ × Own) → Type 0
 EndedFit w owners [] = Unit {0}
@@ -41,7 +51,7 @@ EndedFit w owners (p ∷ ps) =
 
 module _ (w : World) (owners : Owners) (seat : ℕ) where
   -- what a seat's role says is so in the world: a reader knows its own numbers, the control its own, each reader that is
-  -- passed and each that has ended, and a note its version. A reader whose seat isn't made yet has done nothing
+  -- passed and each that has ended, once each, and a note its version. A reader whose seat isn't made yet has done nothing
   abbrev pub RoleFits : Role → Type 0
   RoleFits Spent = Unit {0}
   RoleFits (Reader r o) =
@@ -51,7 +61,7 @@ module _ (w : World) (owners : Owners) (seat : ℕ) where
       × ((r : ℕ) → r < w.readers → (w.reader_at r).passed ≡ nat_lt r d.passed)
       × (d.scans ≡ w.scans) × (d.found ≡ w.found) × (d.made ≡ w.made) × (d.opened ≡ owners.opened)
       × ((r : ℕ) → owners.opened ≤ r → ((w.reader_at r).own ≡ first_own) × (owners.ended r ≡ false))
-      × EndedFit w owners d.ended
+      × EndedFit w owners d.ended × AreOnce w.readers d.ended
   RoleFits (Note k v) = (k < w.made) × (w.notes k ≡ Some v) × (owners.note_seat k ≡ seat)
 
 -- this is so of each seat but a spent one
@@ -87,6 +97,12 @@ pub record EpochRule {Q C : Type 0} (K : ℕ) (lawful : Q → ℕ → C → Type
   pub ann_is : (r : ℕ) → r < world.readers → slice_index s.words (1 + r) ≡ (world.reader_at r).ann
   pub each_view : (j : ℕ) (v : View Q) → get_elem? s.views j ≡ some v → KeyFits v.role (v.key ≡ key) × RoleFits world owners j v.role
   pub each_place : (r b : ℕ) → r < world.readers → b < K → PlaceHas lawful key ((world.reader_at r).spot b) ((world.reader_at r).held b) (get_elem? s.homes (slot_of b r))
+
+-- in some state that the rule allows, a seat has the view v and the word holds n
+abbrev pub HeldWord : {Q C : Type 0} → ℕ → (Q → ℕ → C → Type 0) → View Q → ℕ → ℕ → Type 0
+HeldWord {Q} {C} K lawful v word n =
+    (s : State (Option C) (View Q)) × EpochRule K lawful v.key s × (seat : ℕ)
+    × (get_elem? s.views seat ≡ some v) × (slice_index s.words word ≡ n)
 
 -- 65 words, and a place for each of 64 readers in each of four banks
 abbrev pub IsSized : TableId → Type 0

@@ -1,5 +1,6 @@
 -- What holds of the running table between any two steps, and what each step does to the world that it shows.
-use Rattle.std.specs.Prelude.{◌≡◌, ℕ, ◌+◌, ◌%◌, ◌<◌, List, ◌∷◌, length, Option, Some}
+use Rattle.std.specs.Prelude.{◌≡◌, ◌≢◌, ℕ, ◌+◌, ◌%◌, ◌<◌, ◌≤◌, List, ◌∷◌, length, Option, Some}
+use mathlib.Core.Option.{some}
 use lib.ListN.{get_elem?}
 use Rattle.atomic_table.specs.Table.{State}
 use Rattle.epoch_core.specs.declared.event.Event.TheVariants as event
@@ -8,11 +9,19 @@ use Rattle.epoch_core.specs.declared.view.Own.{Own}
 use Rattle.epoch_core.specs.declared.view.Phase.TheVariants.{Idle, Standing, Holding}
 use Rattle.epoch_core.specs.declared.view.Role.TheVariants.{Spent, Reader, Control, Note}
 use Rattle.epoch_core.specs.declared.view.View.{View}
-use Rattle.epoch_core.specs.Follows.{Follows, SplitFollows, JoinFollows}
-use Rattle.epoch_core.specs.Plays.{Mine, looks, announces, enters, leaves, scans, publishes, Each, filled_places, seating, seated, telling, noted, learnt, ending, in_role}
+use Rattle.epoch_core.specs.Follows.{Follows, StepFollows, SplitFollows, JoinFollows}
+use Rattle.epoch_core.specs.Plays.{Mine, looks, announces, enters, leaves, scans, publishes, Each, filled_places, seating, seated, telling, noted, learnt, ending, closes, in_role}
 use Rattle.epoch_core.specs.Rule.{slot_of, PlaceHas, EpochRule}
 use Rattle.epoch_core.specs.Sound.{Sound}
 use Rattle.epoch_core.specs.Step.{step}
+use Rattle.epoch_core.specs.World.{reader, World}
+
+-- no seat at the table is a reader's, each reader is outside and announces nothing, and none of its places is with it
+pub record NoneIsLeft {Q : Type 0} (K : ℕ) (w : World) (views : List (View Q)) : Type 0 where
+  pub no_seat : (seat r : ℕ) (v : View Q) (o : Own) → get_elem? views seat ≡ some v → v.role ≢ Reader r o
+  pub outside : (r : ℕ) → r < w.readers → (w.reader_at r).own.phase ≡ Idle
+  pub silent : (r : ℕ) → r < w.readers → (w.reader_at r).ann ≡ 0
+  pub free : (r bank : ℕ) → r < w.readers → bank < K → (w.reader_at r).spot bank ≢ reader
 
 -- each step of a seat takes the shown world to the definitions' step of it
 pub record EachStepFollows {Q C : Type 0} (K : ℕ) (lawful : Q → ℕ → C → Type 0) (key : Q) : Type 0 where
@@ -22,7 +31,7 @@ pub record EachStepFollows {Q C : Type 0} (K : ℕ) (lawful : Q → ℕ → C �
       × ((r b : ℕ) → r < h.world.readers → b < K → PlaceHas lawful key ((h.world.reader_at r).spot b) ((h.world.reader_at r).held b) (get_elem? s.homes (slot_of b r)))
   -- a reader that is outside loads word 0: it looks
   pub look : (slots id r : ℕ) (me : Mine Q C) (o : Own) → me.0.role ≡ Reader r o → o.phase ≡ Idle
-      → Follows K lawful key slots id me 0 (λ n. n) (looks me) (event.Look r)
+      → Follows K lawful key slots id me 0 (λ n. n) (looks lawful K me) (event.Look r)
   -- it stores one more than the version that it looked at last in its word: it announces
   pub announce : (slots id r : ℕ) (me : Mine Q C) (o : Own) → me.0.role ≡ Reader r o → o.phase ≡ Idle
       → Follows K lawful key slots id me (1 + r) (λ _. o.last + 1) (λ _ m'. announces me m') (event.Announce r)
@@ -35,7 +44,7 @@ pub record EachStepFollows {Q C : Type 0} (K : ℕ) (lawful : Q → ℕ → C �
       → Follows K lawful key slots id me (1 + r) (λ _. 0) (λ _ m'. leaves me m') (event.Leave r)
   -- the control loads the word of the first reader that isn't passed: it scans
   pub scan : (slots id : ℕ) (me : Mine Q C) (d : ControlOwn) → me.0.role ≡ Control d → d.passed < d.readers
-      → Follows K lawful key slots id me (1 + d.passed) (λ n. n) (scans K me) (event.Scan d.passed)
+      → Follows K lawful key slots id me (1 + d.passed) (λ n. n) (scans lawful K me) (event.Scan d.passed)
   -- once all readers are passed and the control has put lawful values in all places in hand, it stores the next version in
   -- word 0 and gives the places back: it publishes
   pub publish : (slots id : ℕ) (me : Mine Q C) (d : ControlOwn) (cs : List C) → me.0.role ≡ Control d → d.passed ≡ d.readers
@@ -53,3 +62,10 @@ pub record EachStepFollows {Q C : Type 0} (K : ℕ) (lawful : Q → ℕ → C �
   -- the control takes a reader's seat in: the world stays
   pub end_seat : (id r other : ℕ) (v u spent : View Q) (d : ControlOwn) (o : Own) → v.role ≡ Control d → u.role ≡ Reader r o → o.phase ≡ Idle → spent.role ≡ Spent
       → JoinFollows K lawful key id v other u (record v { role = ending v.role u.role }) spent (λ w. w)
+  -- the control, which has taken seats in, loads word 0: the world stays
+  pub close : (slots id : ℕ) (me : Mine Q C) (d : ControlOwn) → me.0.role ≡ Control d
+      → StepFollows K lawful key slots id me 0 (λ n. n) (closes lawful K me) (λ w. w)
+  -- once the control has taken in as many seats as there are readers, none of them is left
+  pub none_left : (s : State (Option C) (View Q)) (h : EpochRule K lawful key s) (id : ℕ) (v : View Q) (d : ControlOwn)
+      → get_elem? s.views id ≡ some v → v.role ≡ Control d → d.readers ≤ length d.ended
+      → NoneIsLeft K h.world s.views

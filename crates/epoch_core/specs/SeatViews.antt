@@ -2,6 +2,7 @@
 use Rattle.std.specs.Prelude.{◌≡◌, ℕ, ◌+◌, ◌%◌, ◌<◌, ◌≤◌, List, [], ◌∷◌, length, slice_index_or, Option, None}
 use Rattle.atomic_table.specs.Seated.{TableId}
 use Rattle.atomic_table.specs.declared.shared.Seat.{Seat}
+use Rattle.epoch_core.specs.declared.laws.TheConstants.{BANKS}
 use Rattle.epoch_core.specs.declared.view.Own.{Own}
 use Rattle.epoch_core.specs.declared.view.ControlOwn.{ControlOwn}
 use Rattle.epoch_core.specs.declared.view.Phase.TheVariants.{Idle, Holding}
@@ -62,7 +63,7 @@ module _ {Q C : Type 0} where
 
   -- the reader has this version and this lawful value in hand, and its place in the bank is empty
   pub record IsInEpoch (lawful : Q → ℕ → C → Type 0) (s : Seat (Option C) (View Q)) (z : TableId) (q : Q) (r version : ℕ) (c : C) : Type 0 where
-    pub reader : IsReadersSeat s z q r ((slot_of (version % 4) r, None) ∷ [])
+    pub reader : IsReadersSeat s z q r ((slot_of (version % BANKS) r, None) ∷ [])
     pub holding : (own s).phase ≡ Holding (own s).last version
     pub seen : (own s).seen ≡ version
     pub fair : lawful q version c
@@ -79,7 +80,7 @@ module _ {Q C : Type 0} where
     pub counts : ((control_own s).readers ≡ readers) × (readers ≤ 64) × (passed ≤ readers)
     pub low : version < 4294967296
     pub numbers : ((control_own s).version ≡ version) × ((control_own s).passed ≡ passed)
-    pub hands : (ys : List (Option C)) × (s.me.1 ≡ taken_places ((version + 1) % 4) ys) × (length ys ≡ passed)
+    pub hands : (ys : List (Option C)) × (s.me.1 ≡ taken_places ((version + 1) % BANKS) ys) × (length ys ≡ passed)
 
   -- the seat of a note of this version
   pub record IsNoteSeat (s : Seat (Option C) (View Q)) (z : TableId) (q : Q) (version : ℕ) : Type 0 where

@@ -1,12 +1,13 @@
 //! The control, which publishes versions.
 ghost use Rattle.std.specs.Prelude.{◌≡◌, ◌+◌, ◌<◌, ◌≤◌, [], List, length, vec_len, true, false, All, IfSome, IfNone, IfOk, IfErr, OnOk, Some};
 ghost use Rattle.std.specs.Arc.{arc_value};
+ghost use Rattle.epoch_core.specs.Moments.{WasAnnounced};
 ghost use Rattle.epoch_core.specs.Step.{may_pass};
 ghost use Rattle.epoch_core.specs.Rule.{at_key, first_control, opened_view, IsSized};
 ghost use Rattle.epoch_core.specs.Plays.{scanned_control, published_control, taken_places, filled_places, Each};
 
 use crate::OutOfMemory;
-use crate::board::{Board, Lawful, Place, Top};
+use crate::board::{Board, Lawful, Place, Top, slot_of};
 use crate::laws::BANKS;
 use crate::plays::{Publish, Scan};
 use std::alloc::Global;
@@ -51,14 +52,14 @@ fn hand_out<Q, T: Lawful<Q> + Drop>(
     version: u64,
     mut copies: Vec<Arc<T, Global>>,
 )
-    requires table { (place.old.table_id ≡ top.now.table_id) × (bank < 4) × (vec_len copies ≤ 64) }
+    requires table { (place.old.table_id ≡ top.now.table_id) × (bank < BANKS) × (vec_len copies ≤ 64) }
     requires hands { (ys : List _) × (place.old.me.1 ≡ taken_places bank ys) × (length ys ≡ vec_len copies) }
     requires lawful { Each (at_key (λ q v c. T.is_lawful q v (arc_value c)) place.old.me.0.key version) copies.items }
     ensures seat { (place.new.table_id ≡ place.old.table_id) × (place.new.id ≡ place.old.id) × (place.new.me.0 ≡ place.old.me.0) }
     ensures hands { (cs : List _) × (place.new.me.1 ≡ filled_places bank 0 cs) × (length cs ≡ vec_len copies) × Each (at_key (λ q v c. T.is_lawful q v (arc_value c)) place.old.me.0.key version) cs }
 {
     while let Some(copy) = copies.pop() {
-        top.exchange(place, 64 * bank + copies.len(), Some(copy));
+        top.exchange(place, slot_of(bank, copies.len()), Some(copy));
         place.turn();
     }
 }
@@ -118,12 +119,13 @@ impl<Q, T: Lawful<Q> + Drop> ControlSeat<Q, T> {
         ensures none { IfNone result (self.new.own.passed ≡ self.old.own.passed + 1) }
         ensures some { IfSome result (λ stands. (self.new.own.passed ≡ self.old.own.passed) × (self.new.own.found ≡ (self.old.own.passed, stands))) }
         ensures held_up { IfSome result (λ stands. (0 < stands) × (stands + BANKS ≤ self.old.own.version + 2)) }
+        ensures announced { IfSome result (λ stands. WasAnnounced T.is_lawful self.old self.old.own.passed stands) }
         ensures seat { (self.new.table ≡ self.old.table) × (self.new.key ≡ self.old.key) }
         ensures own { self.new.own ≡ record self.old.own { scans = self.old.own.scans + 1; found = self.new.own.found; passed = self.new.own.passed } }
     {
         let board = &self.board;
         let reader = usize::from(self.passed);
-        let stands = board.shared.load::<Scan>(&mut self.place, 1 + reader);
+        let stands = board.shared.load::<Scan<T>>(&mut self.place, 1 + reader);
         if may_go(self.version, stands) {
             self.passed += 1;
             None
@@ -144,6 +146,7 @@ impl<Q, T: Lawful<Q> + Drop> ControlSeat<Q, T> {
         ensures scans { OnOk result (self.new.own.scans + self.old.own.passed ≡ self.old.own.scans + self.old.own.readers) }
         ensures held { IfErr result (λ h. self.new.own ≡ record self.old.own { passed = h.reader; scans = self.new.own.scans; found = (h.reader, h.stands) }) }
         ensures held_up { IfErr result (λ h. (0 < h.stands) × (h.stands + BANKS ≤ self.old.own.version + 2)) }
+        ensures announced { IfErr result (λ h. WasAnnounced T.is_lawful self.old h.reader h.stands) }
         ensures in_order { IfErr result (λ h. (self.old.own.passed ≤ h.reader) × (h.reader < self.old.own.readers) × (self.new.own.scans + self.old.own.passed ≡ self.old.own.scans + h.reader + 1)) }
         ensures copies { IfErr result (λ h. h.copies ≡ copies) }
     {

@@ -1,9 +1,10 @@
 //! What each step on the table tells.
 ghost use Rattle.std.specs.Prelude.{None};
 ghost use Rattle.std.specs.Arc.{arc_value};
+ghost use Rattle.epoch_core.specs.declared.laws.TheConstants.{BANKS};
 ghost use Rattle.epoch_core.specs.declared.view.Role.TheVariants.{Spent};
 ghost use Rattle.epoch_core.specs.Rule.{at_key};
-ghost use Rattle.epoch_core.specs.Plays.{looks, announces, enters, leaves, scans, publishes, seating, seated, telling, noted, learnt, ending, in_role};
+ghost use Rattle.epoch_core.specs.Plays.{looks, announces, enters, leaves, scans, publishes, seating, seated, telling, noted, learnt, ending, closes, in_role};
 
 use crate::board::Lawful;
 use crate::view::View;
@@ -13,10 +14,12 @@ use std::marker::PhantomData;
 use std::sync::Arc;
 
 /// A reader loads the published version.
-pub(crate) struct Look;
+pub(crate) struct Look<T> {
+    value: PhantomData<T>,
+}
 
-impl<Q, C> Play<Option<C>, View<Q>> for Look {
-    ghost then = { λ _. looks };
+impl<Q, T: Lawful<Q>> Play<Option<Arc<T, Global>>, View<Option<Q>>> for Look<T> {
+    ghost then = { λ _. looks (at_key (λ q v c. T.is_lawful q v (arc_value c))) BANKS };
 }
 
 /// A reader announces the version that it looked at last.
@@ -32,7 +35,7 @@ pub(crate) struct Enter<T> {
 }
 
 impl<Q, T: Lawful<Q>> Play<Option<Arc<T, Global>>, View<Option<Q>>> for Enter<T> {
-    ghost then = { λ _. enters (at_key (λ q v c. T.is_lawful q v (arc_value c))) 4 };
+    ghost then = { λ _. enters (at_key (λ q v c. T.is_lawful q v (arc_value c))) BANKS };
 }
 
 /// A reader gives its place back and announces nothing any more.
@@ -43,10 +46,12 @@ impl<Q, C> Play<Option<C>, View<Q>> for Leave {
 }
 
 /// The control loads a reader's announcement, and takes the reader's place if it may.
-pub(crate) struct Scan;
+pub(crate) struct Scan<T> {
+    value: PhantomData<T>,
+}
 
-impl<Q, C> Play<Option<C>, View<Q>> for Scan {
-    ghost then = { λ _. scans 4 };
+impl<Q, T: Lawful<Q>> Play<Option<Arc<T, Global>>, View<Option<Q>>> for Scan<T> {
+    ghost then = { λ _. scans (at_key (λ q v c. T.is_lawful q v (arc_value c))) BANKS };
 }
 
 /// The control gives the places back and publishes.
@@ -90,4 +95,13 @@ impl<Q> Join<View<Option<Q>>> for End {
     ghost both = { λ v u. record v { role = ending v.role u.role } };
 
     ghost spent = { record { key = None; role = Spent } };
+}
+
+/// The control, which has taken seats in, loads the published version.
+pub(crate) struct Close<T> {
+    value: PhantomData<T>,
+}
+
+impl<Q, T: Lawful<Q>> Play<Option<Arc<T, Global>>, View<Option<Q>>> for Close<T> {
+    ghost then = { λ _. closes (at_key (λ q v c. T.is_lawful q v (arc_value c))) BANKS };
 }

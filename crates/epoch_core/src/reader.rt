@@ -2,11 +2,12 @@
 ghost use Rattle.std.specs.Prelude.{◌≡◌, ◌<◌, ◌≤◌, [], Some};
 ghost use Rattle.std.specs.Arc.{arc_value};
 ghost use Rattle.epoch_core.specs.declared.view.Role.TheVariants.{Reader};
+ghost use Rattle.epoch_core.specs.Moments.{WasPublished};
 ghost use Rattle.epoch_core.specs.Rule.{IsSized};
 ghost use Rattle.epoch_core.specs.Step.{looked_own, announced_own, entered_own, left_own};
 ghost use Rattle.epoch_core.specs.World.{first_own};
 
-use crate::board::{Board, Lawful, Place};
+use crate::board::{Board, Lawful, Place, slot_of};
 use crate::laws::BANKS;
 use crate::plays::{Announce, Enter, Leave, Look};
 use std::alloc::Global;
@@ -88,9 +89,10 @@ impl<Q, T: Lawful<Q> + Drop> ReaderSeat<Q, T> {
     pub fn look(&mut self) -> u64
         ensures seat { self.new ≡ record self.old { own = looked_own result self.old.own } }
         ensures later { self.old.own.seen ≤ result }
+        ensures published { WasPublished T.is_lawful self.old result }
     {
         let board = &self.board;
-        let found = board.shared.load::<Look>(&mut self.place, 0);
+        let found = board.shared.load::<Look<T>>(&mut self.place, 0);
         self.seen = found;
         found
     }
@@ -101,6 +103,8 @@ impl<Q, T: Lawful<Q> + Drop> ReaderSeat<Q, T> {
         ensures seat { (result.seat.table ≡ self.table) × (result.seat.key ≡ self.key) × (result.seat.number ≡ self.number) }
         ensures steps { result.seat.own ≡ entered_own result.version (announced_own (looked_own result.seat.own.last self.own)) }
         ensures later { (self.own.seen ≤ result.seat.own.last) × (result.seat.own.last ≤ result.version) }
+        ensures looked { WasPublished T.is_lawful self result.seat.own.last }
+        ensures published { WasPublished T.is_lawful (record self { own = announced_own (looked_own result.seat.own.last self.own) }) result.version }
         ensures lawful { T.is_lawful result.seat.key result.version result.value }
     {
         let Self {
@@ -111,12 +115,12 @@ impl<Q, T: Lawful<Q> + Drop> ReaderSeat<Q, T> {
         } = self;
         let shared = &board.shared;
         let reader = usize::from(index);
-        let found = shared.load::<Look>(&mut place, 0);
+        let found = shared.load::<Look<T>>(&mut place, 0);
         shared.store::<Announce>(&mut place, 1 + reader, found + 1);
         let current = shared.load::<Enter<T>>(&mut place, 0);
         let bank = (current % BANKS) as usize;
         let value = shared
-            .exchange(&mut place, 64 * bank + reader, None)
+            .exchange(&mut place, slot_of(bank, reader), None)
             .unwrap();
         Standing {
             board,
@@ -158,7 +162,7 @@ impl<Q, T: Lawful<Q> + Drop> Standing<Q, T> {
         let shared = &board.shared;
         let reader = usize::from(index);
         let bank = (version % BANKS) as usize;
-        shared.exchange(&mut place, 64 * bank + reader, Some(value));
+        shared.exchange(&mut place, slot_of(bank, reader), Some(value));
         shared.store::<Leave>(&mut place, 1 + reader, 0);
         ReaderSeat {
             board,

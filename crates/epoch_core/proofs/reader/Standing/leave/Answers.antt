@@ -1,6 +1,7 @@
-use Rattle.std.proofs.Common.{◌≡◌, ◌<◌, ◌+◌, ◌*◌, ◌%◌, lit≤, sym, ap, ◌∙◌, arith, Option, Some, [], ◌∷◌, subst}
+use Rattle.std.proofs.Common.{◌≡◌, ◌<◌, ◌+◌, ◌%◌, lit≤, sym, ap, ◌∙◌, arith, Option, Some, [], ◌∷◌, subst}
 use Rattle.std.specs.Arc.{arc_value}
-use Rattle.epoch_core.specs.Rule.{at_key, own}
+use Rattle.epoch_core.specs.Rule.{at_key, slot_of, own}
+use Rattle.epoch_core.specs.declared.laws.TheConstants.{BANKS}
 use Rattle.epoch_core.specs.Step.{left_own}
 use Rattle.epoch_core.proofs.ReaderSteps.{leaving_at}
 use Rattle.epoch_core.proofs.SeatLemmas.{role_of, carries, after_exchange, after_leaves, room}
@@ -13,7 +14,7 @@ store-requires g c = let inv = c.self.invariant in let at = ap (λ t. t.shared.t
       out.reader.table ∙ at,
       room _ _ inv.reader.sized at (1 + c.from-reader.result) (omega arith),
       leaving_at 4 (lit≤ tt) (at_key (λ q v c'. g.T.Lawful.is_lawful q v (arc_value c'))) _ _ _ _ _ c.self.inside.index (own c.exchange.new.seat) _ c.self.inside.version c.self.inside.value _ (role_of _ _ _ _ _ out.reader)
-          (ap (λ o. o.phase) out.facts ∙ inv.holding) (carries _ _ _ _ _ out.reader ∙ ap (λ k. (64 * (c.self.inside.version % 4) + k, Some c.self.inside.value) ∷ []) at_index)
+          (ap (λ o. o.phase) out.facts ∙ inv.holding) (carries _ _ _ _ _ out.reader ∙ ap (λ k. (k, Some c.self.inside.value) ∷ []) (c.slot_of.ensures ∙ ap (λ k. slot_of (c.self.inside.version % BANKS) k) at_index))
           (let P = λ (q : Option g.row.Q.Denot). at_key (λ q v c'. g.T.Lawful.is_lawful q v (arc_value c')) q c.self.inside.version c.self.inside.value in subst P (sym out.reader.keyed) inv.fair) (ap (λ k. 1 + k) at_index),
     )
 
