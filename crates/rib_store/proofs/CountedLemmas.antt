@@ -1,5 +1,5 @@
 -- The counts of nexthops and groups, as the paths of a route come in or go: they stay right, and how many are live.
-use Rattle.std.proofs.Common.{◌≡◌, ℕ, ◌+◌, ◌-◌, ◌<◌, ◌≤◌, ◌==◌, List, [], ◌∷◌, ◌++◌, length, Bool, true, false, cond, not, ◌&&◌, ◌||◌, Option, Some, None, refl, sym, ◌∙◌, ap, subst, arith, nat_lt, filter, zero-add}
+use Rattle.std.proofs.Common.{◌≡◌, ℕ, ◌+◌, ◌<◌, ◌≤◌, ◌==◌, List, [], ◌∷◌, length, Bool, true, false, cond, not, ◌&&◌, ◌||◌, refl, sym, ◌∙◌, ap, arith}
 use Rattle.std.specs.Prelude.{count_by, IsTrue}
 use Rattle.std.specs.List.{list_any, sum_by}
 use Rattle.std.specs.List.Sorted.{IsStrictlySortedBy}
@@ -9,7 +9,7 @@ use Rattle.std.specs.BTreeMap.{is_at}
 use Rattle.std.proofs.lemmas.Bool.{eqb-true}
 use Rattle.std.proofs.lemmas.Bool.Decides.{nat_tests}
 use Rattle.std.proofs.lemmas.Cmp.{tied_itself}
-use Rattle.std.proofs.lemmas.List.Sums.{sum_by-cons, count_by-le-length}
+use Rattle.std.proofs.lemmas.List.Sums.{count_by-le-length}
 use Rattle.std.proofs.lemmas.Map.Entries.{length-keys_of}
 use Rattle.prefix_width.specs.Nexthop.{Hop}
 use Rattle.prefix_width.specs.Path.{WeightedHop}
@@ -20,12 +20,12 @@ use Rattle.nhgrp_slots.specs.PathList.{hops, IsPathList}
 use Rattle.counted_map.specs.Counts.{Counts, count_of, linked, unlinked, times, IsCounts}
 use Rattle.prefix_width.proofs.OrderLemmas.{hop_exact}
 use Rattle.nhgrp_slots.proofs.PathOrder.{paths_exact}
-use Rattle.counted_map.proofs.CountMapLemmas.{linked_at, unlinked_at, linked_all_at, unlinked_all_at, IsCounts-linked, IsCounts-unlinked, IsCounts-linked_all, length-linked, length-unlinked, length-linked_all, length-unlinked_all, times_once, sum-linked, sum-unlinked, keys_are_distinct, any-distinct, same_counts}
-use Rattle.rib_store.specs.Uses.{Uses, gained, lost, with_paths, without_paths, live_in, grown, shrunk, AreCounts, HasPaths, HasOld, without_old, IsCounted}
-use Rattle.rib_store.specs.Live.{is_group, hops_of, live_hops, live_groups}
+use Rattle.counted_map.proofs.CountMapLemmas.{linked_at, unlinked_at, linked_all_at, unlinked_all_at, IsCounts-linked, IsCounts-unlinked, IsCounts-linked_all, length-linked, length-unlinked, length-linked_all, length-unlinked_all, times_once, sum-linked, sum-unlinked, same_counts}
+use Rattle.rib_store.specs.Uses.{Uses, gained, lost, with_paths, without_paths, live_in, grown, shrunk, AreCounts, HasPaths, IsCounted}
+use Rattle.rib_store.specs.Live.{is_group}
 use Rattle.nhgrp_slots.specs.PathList.{names}
 
-any-hops : (f : Hop → Bool) (ps : List WeightedHop) → list_any f (hops ps) ≡ list_any (λ p. f p.nexthop) ps
+pub any-hops : (f : Hop → Bool) (ps : List WeightedHop) → list_any f (hops ps) ≡ list_any (λ p. f p.nexthop) ps
 any-hops f [] = refl
 any-hops f (p ∷ ps) = ap (λ b. f p.nexthop || b) (any-hops f ps)
 
@@ -264,74 +264,6 @@ few_groups lists u g counted =
     let a = count_by-le-length (λ ps. is_group ps && is_eq (paths_cmp g ps)) lists in
     omega arith
 
--- what is live
-any-count : {X : Type 0} (f : X → Bool) (xs : List X) → nat_lt 0 (count_by f xs) ≡ list_any f xs
-any-count f [] = refl
-any-count {X} f (x ∷ xs) = ap (nat_lt 0) (sum_by-cons (λ y. cond (f y) 1 0) x xs) ∙ go (f x) (any-count f xs)
-  where
-    go : (b : Bool) → nat_lt 0 (count_by f xs) ≡ list_any f xs → nat_lt 0 (cond b 1 0 + count_by f xs) ≡ (b || list_any f xs)
-    go true h = grind (arith, nat_tests)
-    go false h = ap (nat_lt 0) (zero-add (count_by f xs)) ∙ h
-
-any-sum : (a b : ℕ) → nat_lt 0 (a + b) ≡ (nat_lt 0 a || nat_lt 0 b)
-any-sum a b = grind (arith, nat_tests)
-
-any-filter : {X : Type 0} (f t : X → Bool) (xs : List X) → list_any f (filter t xs) ≡ list_any (λ x. t x && f x) xs
-any-filter f t [] = refl
-any-filter f t (x ∷ xs) =
-    let ih = any-filter f t xs in
-    elim (t x) as (λ b. list_any f (cond b (x ∷ filter t xs) (filter t xs)) ≡ ((b && f x) || list_any (λ y. t y && f y) xs)) [ true ↦ ap (λ b. f x || b) ih | false ↦ ih ]
-
-any-append : {X : Type 0} (f : X → Bool) (xs ys : List X) → list_any f (xs ++ ys) ≡ (list_any f xs || list_any f ys)
-any-append f [] ys = refl
-any-append f (x ∷ xs) ys = ap (λ b. f x || b) (any-append f xs ys) ∙ three (f x) (list_any f xs) (list_any f ys)
-  where
-    three : (a b c : Bool) → (a || (b || c)) ≡ ((a || b) || c)
-    three true b c = refl
-    three false b c = refl
-
-split : (g n : Bool) (a b : Bool) → ((not g && n) || a) || ((g && n) || b) ≡ (n || (a || b))
-split true true true b = refl
-split true true false b = refl
-split true false a b = refl
-split false true a b = refl
-split false false a b = refl
-
-any-hops_of : (h : Hop) (lists : List (List WeightedHop)) → (list_any (λ ps. not (is_group ps) && names h ps) lists || list_any (λ ps. is_group ps && names h ps) lists) ≡ list_any (is_at (hop_cmp h)) (hops_of lists)
-any-hops_of h [] = refl
-any-hops_of h (ps ∷ rest) =
-    split (is_group ps) (names h ps) (list_any (λ qs. not (is_group qs) && names h qs) rest) (list_any (λ qs. is_group qs && names h qs) rest)
-    ∙ ap (λ b. names h ps || b) (any-hops_of h rest)
-    ∙ ap (λ b. b || list_any (is_at (hop_cmp h)) (hops_of rest)) (sym (any-hops (is_at (hop_cmp h)) ps))
-    ∙ sym (any-append (is_at (hop_cmp h)) (hops ps) (hops_of rest))
-
-pub keys_groups : (lists : List (List WeightedHop)) (u : Uses) → IsCounted lists u → AreCounts u → keys_of u.groups ≡ live_groups lists
-keys_groups lists u counted are =
-    keys_are_distinct paths_cmp paths_total paths_exact u.groups (filter is_group lists) are.groups
-    (λ q. ap (nat_lt 0) (counted.groups q) ∙ any-count (λ ps. is_group ps && is_eq (paths_cmp q ps)) lists ∙ sym (any-filter (is_at (paths_cmp q)) is_group lists))
-
-pub keys_nhops : (lists : List (List WeightedHop)) (u : Uses) → IsCounted lists u → AreCounts u → keys_of u.nhops ≡ live_hops lists
-keys_nhops lists u counted are =
-    keys_are_distinct hop_cmp hop_total hop_exact u.nhops (hops_of lists) are.nhops
-    (λ h. ap (nat_lt 0) (counted.nhops h) ∙ any-sum _ _
-    ∙ ap (λ b. b || nat_lt 0 (count_by (names h) (keys_of u.groups))) (any-count (λ ps. not (is_group ps) && names h ps) lists)
-    ∙ ap (λ b. list_any (λ ps. not (is_group ps) && names h ps) lists || b) (in_groups h)
-    ∙ any-hops_of h lists)
-  where
-    in_groups : (h : Hop) → nat_lt 0 (count_by (names h) (keys_of u.groups)) ≡ list_any (λ ps. is_group ps && names h ps) lists
-    in_groups h =
-        any-count (names h) (keys_of u.groups)
-        ∙ ap (list_any (names h)) (keys_groups lists u counted are)
-        ∙ any-distinct paths_cmp paths_total paths_exact (names h) (filter is_group lists)
-        ∙ any-filter (names h) is_group lists
-
--- the number of live targets is that of the entries
-pub live_count : (lists : List (List WeightedHop)) (u : Uses) → IsCounted lists u → AreCounts u → live_in u ≡ length (live_hops lists) + length (live_groups lists)
-live_count lists u counted are =
-    let a = sym (length-keys_of u.nhops) ∙ ap length (keys_nhops lists u counted are) in
-    let b = sym (length-keys_of u.groups) ∙ ap length (keys_groups lists u counted are) in
-    omega arith
-
 -- counts with a route of these paths
 pub count_with : (u : Uses) (ps : List WeightedHop) (h : Hop) → IsPathList ps → (g n : Bool) → g ≡ not (is_group ps && not (count_of paths_cmp u.groups ps == 0)) → n ≡ names h ps → count_of hop_cmp (with_paths u ps).nhops h ≡ count_of hop_cmp u.nhops h + cond g (cond n 1 0) 0
 count_with u ps h is g n e f =
@@ -365,15 +297,3 @@ is_group_length (p ∷ []) true f h = let x = f refl in absurd (omega arith)
 is_group_length (p ∷ []) false f h = refl
 is_group_length (p ∷ q ∷ ps) true f h = refl
 is_group_length (p ∷ q ∷ ps) false f h = let x = h refl in absurd (omega arith)
-
-pub after_none : (u : Uses) (new : List WeightedHop) (o : Option (List WeightedHop)) (l g : ℕ) → o ≡ None → l ≡ live_in u → g ≡ grown u new → AreCounts u → IsPathList new → l + g ≡ live_in (without_old (with_paths u new) o)
-after_none u new o l g e size more are is =
-    let a = live_in-with u new are is in
-    subst (λ x. l + g ≡ live_in (without_old (with_paths u new) x)) (sym e) (omega arith)
-
-pub after_some : (u : Uses) (new old : List WeightedHop) (o : Option (List WeightedHop)) (l g s : ℕ) → o ≡ Some old → l ≡ live_in u → g ≡ grown u new → s ≡ shrunk (with_paths u new) old → AreCounts u → IsPathList new → IsPathList old → HasOld (with_paths u new) o → (s ≤ l + g) × (l + g - s ≡ live_in (without_old (with_paths u new) o))
-after_some u new old o l g s e size more less are is js has =
-    let a = live_in-with u new are is in
-    let h : HasPaths (with_paths u new) old = subst (HasOld (with_paths u new)) e has in
-    let b = live_in-without (with_paths u new) old (AreCounts-with u new are) js h in
-    (omega arith, subst (λ x. l + g - s ≡ live_in (without_old (with_paths u new) x)) (sym e) (omega arith))

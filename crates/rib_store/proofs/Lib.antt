@@ -1,6 +1,8 @@
 pub mod CountedLemmas
 pub mod LawLemmas
+pub mod LimitLemmas
 pub mod LinkingLemmas
+pub mod LiveLemmas
 pub mod PlanLemmas
 pub mod ReplacedLemmas
 pub mod SettledLemmas

@@ -2,45 +2,32 @@
 use Rattle.std.proofs.Common.{◌≡◌, ◌∙◌, ℕ, ◌+◌, ◌<◌, ◌≤◌, Bool, true, false, cond, not, ◌||◌, List, [], ◌∷◌, ◌++◌, Option, Some, None, length, refl, sym, ap, arith, rules, add-zero, length-append}
 use Rattle.std.specs.Prelude.{Contains, filter, is_some, IsSome, ◌↔◌}
 use Rattle.std.specs.List.{list_any, position_from, cons_option}
-use Rattle.std.specs.Ordering.{is_eq, match_ordering}
-use Rattle.std.specs.declared.cmp.Ordering.{Ordering}
-use Rattle.std.specs.declared.cmp.Ordering.TheVariants.{Less, Equal, Greater}
+use Rattle.std.specs.Ordering.{is_eq}
 use Rattle.std.specs.Map.{lookup}
 use Rattle.std.specs.BTreeMap.{insert_entry, is_at}
 use Rattle.std.proofs.lemmas.Cmp.{eq_by_cmp_equiv}
 use Rattle.std.proofs.lemmas.List.{append-nil}
 use Rattle.std.proofs.lemmas.List.Elements.{All-push, All-same, filter-append, filter_map-append}
 use Rattle.std.proofs.lemmas.List.Sums.{length-filter, count_by-le-length}
-use Rattle.std.proofs.lemmas.Map.Views.{Contains-from_any, list_any-from_Contains}
+use Rattle.std.proofs.lemmas.Map.Views.{Contains-from_any, any-filter_same, list_any-from_Contains}
 use Rattle.prefix_width.specs.Nexthop.{Hop}
 use Rattle.prefix_width.specs.Order.{hop_cmp}
 use Rattle.prefix_width.proofs.OrderLemmas.{hop_total, hop_exact}
+use Rattle.counted_map.proofs.CountMapLemmas.{eq_from_is_eq}
 use Rattle.rib_store.specs.declared.command.Command.{Command}
 use Rattle.rib_store.specs.declared.plan.TheConstants.{PLAN_MAX}
 use Rattle.rib_store.specs.Plan.{named_by, named, is_other, firsts, place_in, number_of, with_first, IsNumbering, IsPlan, IsWrongModule}
 
-equal_from_is_eq : (r : Ordering) → is_eq r ≡ true → r ≡ Equal
-equal_from_is_eq Less e = cc
-equal_from_is_eq Equal e = refl
-equal_from_is_eq Greater e = cc
-
 -- nexthops that the order finds the same are one
 pub one_hop : (h k : Hop) → is_eq (hop_cmp h k) ≡ true → h ≡ k
-one_hop h k e = hop_exact h k (equal_from_is_eq (hop_cmp h k) e)
+one_hop h k e = hop_exact h k (eq_from_is_eq (hop_cmp h k) e)
 
 same_back : (h k : Hop) → is_eq (hop_cmp h k) ≡ is_eq (hop_cmp k h)
 same_back h k = (eq_by_cmp_equiv hop_total).symm h k
 
 -- leaving out what is the same as another leaves a nexthop where it was
 any-other : (h x : Hop) (hs : List Hop) → is_eq (hop_cmp h x) ≡ false → list_any (is_at (hop_cmp h)) (filter (is_other x) hs) ≡ list_any (is_at (hop_cmp h)) hs
-any-other h x [] apart = refl
-any-other h x (k ∷ ks) apart = go (is_eq (hop_cmp x k)) refl (any-other h x ks apart)
-  where
-    go : (b : Bool) → is_eq (hop_cmp x k) ≡ b → list_any (is_at (hop_cmp h)) (filter (is_other x) ks) ≡ list_any (is_at (hop_cmp h)) ks → list_any (is_at (hop_cmp h)) (cond (not b) (k ∷ filter (is_other x) ks) (filter (is_other x) ks)) ≡ (is_eq (hop_cmp h k) || list_any (is_at (hop_cmp h)) ks)
-    go true e ih =
-        let f : is_eq (hop_cmp h k) ≡ false = ap (λ y. is_eq (hop_cmp h y)) (sym (one_hop x k e)) ∙ apart in
-        rw f ih
-    go false e ih = ap (λ b. is_eq (hop_cmp h k) || b) ih
+any-other h x hs apart = any-filter_same (is_at (hop_cmp h)) (is_other x) true (λ k e. ap not (ap (λ y. is_eq (hop_cmp x y)) (sym (one_hop h k e)) ∙ same_back x h ∙ apart)) hs
 
 -- the firsts are what the list has
 pub any-firsts : (hs : List Hop) (h : Hop) → list_any (is_at (hop_cmp h)) (firsts hs) ≡ list_any (is_at (hop_cmp h)) hs
@@ -105,34 +92,12 @@ place-append (x ∷ xs) k h i none = go (is_eq (hop_cmp h x)) refl (place-append
         let n : i + 1 + length xs ≡ i + length (x ∷ xs) = omega arith in
         ih ∙ ap (λ m. cond (is_eq (hop_cmp k h)) (Some m) (position_from (is_at (hop_cmp h)) (i + 1) xs)) n
 
--- looking up where a key was inserted
-lookup-insert_entry : (m : List (Hop × ℕ)) (k : Hop) (v : ℕ) (q : Hop) → lookup (is_at (hop_cmp q)) (insert_entry hop_cmp m k v) ≡ cond (is_eq (hop_cmp k q)) (Some v) (lookup (is_at (hop_cmp q)) m)
-lookup-insert_entry [] k v q = ap (λ b. cond b (Some v) None) (same_back q k)
-lookup-insert_entry (e ∷ es) k v q = go (hop_cmp k e.0) refl (lookup-insert_entry es k v q)
-  where
-    go : (r : Ordering) → hop_cmp k e.0 ≡ r → lookup (is_at (hop_cmp q)) (insert_entry hop_cmp es k v) ≡ cond (is_eq (hop_cmp k q)) (Some v) (lookup (is_at (hop_cmp q)) es) → lookup (is_at (hop_cmp q)) (match_ordering r ((k, v) ∷ e ∷ es) ((e.0, v) ∷ es) (e ∷ insert_entry hop_cmp es k v)) ≡ cond (is_eq (hop_cmp k q)) (Some v) (lookup (is_at (hop_cmp q)) (e ∷ es))
-    go Less h ih = ap (λ b. cond b (Some v) (lookup (is_at (hop_cmp q)) (e ∷ es))) (same_back q k)
-    go Equal h ih =
-        let s : is_eq (hop_cmp k q) ≡ is_eq (hop_cmp q e.0) = same_back k q ∙ ap (λ x. is_eq (hop_cmp q x)) (hop_exact k e.0 h) in
-        rw s (both (is_eq (hop_cmp q e.0)))
-      where
-        both : (b : Bool) → cond b (Some v) (lookup (is_at (hop_cmp q)) es) ≡ cond b (Some v) (cond b (Some e.1) (lookup (is_at (hop_cmp q)) es))
-        both true = refl
-        both false = refl
-    go Greater h ih = other (is_eq (hop_cmp q e.0)) refl
-      where
-        other : (b : Bool) → is_eq (hop_cmp q e.0) ≡ b → cond b (Some e.1) (lookup (is_at (hop_cmp q)) (insert_entry hop_cmp es k v)) ≡ cond (is_eq (hop_cmp k q)) (Some v) (cond b (Some e.1) (lookup (is_at (hop_cmp q)) es))
-        other true f =
-            let s : is_eq (hop_cmp k q) ≡ false = ap (λ x. is_eq (hop_cmp k x)) (one_hop q e.0 f) ∙ ap is_eq h in
-            rw s refl
-        other false f = ih
-
 -- a new nexthop behind the others, with its place in the map
-pub IsNumbering-append : (hops hops' : List Hop) (numbers numbers' : List (Hop × ℕ)) (k : Hop) (n : ℕ) → IsNumbering hops numbers → lookup (is_at (hop_cmp k)) numbers ≡ None → hops' ≡ hops ++ k ∷ [] → n ≡ length hops' → numbers' ≡ insert_entry hop_cmp numbers k n → IsNumbering hops' numbers'
-IsNumbering-append hops hops' numbers numbers' k n is none e c i h =
+pub IsNumbering-append : (hops hops' : List Hop) (numbers numbers' : List (Hop × ℕ)) (k : Hop) (n : ℕ) → IsNumbering hops numbers → lookup (is_at (hop_cmp k)) numbers ≡ None → hops' ≡ hops ++ k ∷ [] → n ≡ length hops' → numbers' ≡ insert_entry hop_cmp numbers k n → ((h : Hop) → lookup (is_at (hop_cmp h)) (insert_entry hop_cmp numbers k n) ≡ cond (is_eq (hop_cmp k h)) (Some n) (lookup (is_at (hop_cmp h)) numbers)) → IsNumbering hops' numbers'
+IsNumbering-append hops hops' numbers numbers' k n is none e c i puts h =
     let count : n ≡ 1 + length hops = c ∙ ap length e ∙ more in
     ap (lookup (is_at (hop_cmp h))) i
-    ∙ lookup-insert_entry numbers k n h
+    ∙ puts h
     ∙ ap (λ o. cond (is_eq (hop_cmp k h)) (Some n) o) (is h)
     ∙ ap (λ m. cond (is_eq (hop_cmp k h)) (Some m) (place_in hops h)) count
     ∙ sym (place-append hops k h 1 (sym (is k) ∙ none))

@@ -43,15 +43,15 @@ pub record IsReplaced (routes live : ℕ) (rows : Table) (u : Uses) (b : Block) 
   pub has : HasPaths (with_paths u new) old
   pub same : set_value (is_at (block_cmp b)) rows old ≡ rows
   pub put : set_value (is_at (block_cmp b)) rows new ≡ put_row rows b new
-  pub full : (m : ℕ) → m ≡ live_in (without_paths (with_paths u new) old) → live < m → replaced routes live rows b new reply (paths_at rows b) ≡ refused rows TargetsFull
-  pub done : (m : ℕ) → m ≡ live_in (without_paths (with_paths u new) old) → m ≤ live → replaced routes live rows b new reply (paths_at rows b) ≡ record { table = put_row rows b new; reply = reply }
+  pub full : (m : ℕ) → m ≡ live_in (without_paths (with_paths u new) old) → live < m → replaced (settled routes live) rows b new reply (paths_at rows b) ≡ refused rows TargetsFull
+  pub done : (m : ℕ) → m ≡ live_in (without_paths (with_paths u new) old) → m ≤ live → replaced (settled routes live) rows b new reply (paths_at rows b) ≡ record { table = put_row rows b new; reply = reply }
   pub rib : (m : ℕ) → m ≡ live_in (without_paths (with_paths u new) old) → m ≤ live → IsRib routes live (put_row rows b new) (without_paths (with_paths u new) old)
 
 pub replaces : (routes live : ℕ) (rows : Table) (u : Uses) (b : Block) (old new : List WeightedHop) (reply : Reply) → routes + live < 1000000 → Some old ≡ paths_at rows b → IsStrictlySortedBy block_cmp (keys_of rows) → IsRib routes live rows u → AreCounts u → IsPathList new → IsReplaced routes live rows u b old new reply
 replaces routes live rows u b old new reply low e up rib are is =
     let s = settles routes live rows u b new (Some old) e up rib are is in
     let n : length rows ≡ length (put_row rows b new) = length_found rows b new (length rows) refl (ap is_some (sym e)) up in
-    let found = ap (replaced routes live rows b new reply) (sym e) in
+    let found = ap (replaced (settled routes live) rows b new reply) (sym e) in
     let room = rib.room in
     record {
       room = rib_room routes live rows u low rib;

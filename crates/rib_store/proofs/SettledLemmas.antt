@@ -25,7 +25,7 @@ use Rattle.rib_store.specs.Table.{Table, paths_at, put_row, drop_row, live_count
 use Rattle.rib_store.proofs.TableLemmas.{block_total}
 use Rattle.rib_store.specs.Uses.{IsRib}
 use Rattle.rib_store.proofs.CountedLemmas.{IsCounted-with, IsCounted-without, AreCounts-with, AreCounts-without, HasPaths-from, few_hops, few_groups, live_in-without}
-use Rattle.rib_store.proofs.CountedLemmas.{live_count as counted_live}
+use Rattle.rib_store.proofs.LiveLemmas.{counted_live}
 
 -- the counts of a table have room
 pub rib_room : (routes live : ℕ) (rows : Table) (u : Uses) → routes + live < 1000000 → IsRib routes live rows u → HasRoom u

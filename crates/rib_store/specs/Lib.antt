@@ -1,5 +1,6 @@
 pub mod Answer
 pub mod Laws
+pub mod Limits
 pub mod Live
 pub mod Plan
 pub mod Table

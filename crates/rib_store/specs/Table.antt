@@ -49,61 +49,76 @@ pub record Outcome : Type 0 where
 abbrev pub refused : Table → Refusal → Outcome
 refused rows why = record { table = rows; reply = Refused why }
 
--- the paths are the prefix's row, unless there would then be too many routes or too many live targets
-abbrev pub settled : ℕ → ℕ → Table → Block → List WeightedHop → Reply → Outcome
-settled routes live rows b paths reply =
-    if nat_lt routes (length (put_row rows b paths)) then refused rows TableFull
-    else if nat_lt live (live_count (put_row rows b paths)) then refused rows TargetsFull
-    else record { table = put_row rows b paths; reply = reply }
+-- what was made of these rows, unless it has too many routes or too many live targets
+abbrev pub limited : ℕ → ℕ → Table → Outcome → Outcome
+limited routes live rows made =
+    if nat_lt routes (length made.table) then refused rows TableFull
+    else if nat_lt live (live_count made.table) then refused rows TargetsFull
+    else made
+
+-- what comes of paths that are to be the prefix's row
+abbrev pub Settling : Type 0
+Settling = Table → Block → List WeightedHop → Reply → Outcome
+
+-- they are its row
+abbrev pub placed : Settling
+placed rows b paths reply = record { table = put_row rows b paths; reply = reply }
+
+-- they are its row, unless there would then be too many routes or too many live targets
+abbrev pub settled : ℕ → ℕ → Settling
+settled routes live rows b paths reply = limited routes live rows (placed rows b paths reply)
 
 -- the prefix's row is gone
 abbrev pub dropped : Table → Block → Outcome
 dropped rows b = record { table = drop_row rows b; reply = Deleted }
 
 -- `add`, where these are the paths of the prefix: a new row, or one path more in its place
-abbrev pub added : ℕ → ℕ → Table → Block → WeightedHop → Option (List WeightedHop) → Outcome
-added routes live rows b p None = settled routes live rows b (p ∷ []) Added
-added routes live rows b p (Some paths) =
+abbrev pub added : Settling → Table → Block → WeightedHop → Option (List WeightedHop) → Outcome
+added settle rows b p None = settle rows b (p ∷ []) Added
+added settle rows b p (Some paths) =
     if clashes paths p then refused rows Exists
     else if nat_le 64 (length paths) then refused rows PathsFull
-    else settled routes live rows b (put_path paths p) Joined
+    else settle rows b (put_path paths p) Joined
 
 -- these paths in place of those of the prefix, where it has a row
-abbrev pub replaced : ℕ → ℕ → Table → Block → List WeightedHop → Reply → Option (List WeightedHop) → Outcome
-replaced routes live rows b paths reply None = refused rows NotFound
-replaced routes live rows b paths reply (Some old) = settled routes live rows b paths reply
+abbrev pub replaced : Settling → Table → Block → List WeightedHop → Reply → Option (List WeightedHop) → Outcome
+replaced settle rows b paths reply None = refused rows NotFound
+replaced settle rows b paths reply (Some old) = settle rows b paths reply
 
 -- `change`: the one path in place of those before
-abbrev pub changed : ℕ → ℕ → Table → Block → WeightedHop → Option (List WeightedHop) → Outcome
-changed routes live rows b p None = refused rows NotFound
-changed routes live rows b p (Some paths) = settled routes live rows b (p ∷ []) Changed
+abbrev pub changed : Settling → Table → Block → WeightedHop → Option (List WeightedHop) → Outcome
+changed settle rows b p old = replaced settle rows b (p ∷ []) Changed old
 
 -- the paths that are left are the prefix's row, and the row is gone where none is left
-abbrev pub shortened : ℕ → ℕ → Table → Block → Option (List WeightedHop) → Outcome
-shortened routes live rows b None = dropped rows b
-shortened routes live rows b (Some paths) = settled routes live rows b paths Deleted
+abbrev pub shortened : Settling → Table → Block → Option (List WeightedHop) → Outcome
+shortened settle rows b None = dropped rows b
+shortened settle rows b (Some paths) = settle rows b paths Deleted
 
 -- `delete`: the whole row, or its paths by the gateway
-abbrev pub deleted : ℕ → ℕ → Table → Block → Option ℕ → Option (List WeightedHop) → Outcome
-deleted routes live rows b gateway None = refused rows NotFound
-deleted routes live rows b None (Some paths) = dropped rows b
-deleted routes live rows b (Some gateway) (Some paths) =
-    if list_any (goes_by gateway) paths then shortened routes live rows b (paths_left (left_by gateway paths))
+abbrev pub deleted : Settling → Table → Block → Option ℕ → Option (List WeightedHop) → Outcome
+deleted settle rows b gateway None = refused rows NotFound
+deleted settle rows b None (Some paths) = dropped rows b
+deleted settle rows b (Some gateway) (Some paths) =
+    if list_any (goes_by gateway) paths then shortened settle rows b (paths_left (left_by gateway paths))
     else refused rows NotFound
 
 -- `flush`: every row that has a path by a gateway is gone, and the reply is their number
 abbrev pub flushed : Table → Outcome
 flushed rows = record { table = left_by_flush rows; reply = Flushed (length rows - length (left_by_flush rows)) }
 
+-- what a command does, by what comes of paths that are to be a row
+abbrev pub apply_by : {w : _} → Settling → Table → Command w → Outcome
+apply_by settle rows (Add prefix path) = added settle rows prefix path (paths_at rows prefix)
+apply_by settle rows (Change prefix path) = changed settle rows prefix path (paths_at rows prefix)
+apply_by settle rows (Delete prefix gateway) = deleted settle rows prefix gateway (paths_at rows prefix)
+apply_by settle rows Flush = flushed rows
+apply_by settle rows (Tick ms) = record { table = rows; reply = Nothing }
+apply_by settle rows Sync = record { table = rows; reply = Nothing }
+apply_by settle rows (Algo setting) = record { table = rows; reply = Nothing }
+
 -- what a command does, with room for so many routes and so many live targets
 abbrev pub apply_within : {w : _} → ℕ → ℕ → Table → Command w → Outcome
-apply_within routes live rows (Add prefix path) = added routes live rows prefix path (paths_at rows prefix)
-apply_within routes live rows (Change prefix path) = changed routes live rows prefix path (paths_at rows prefix)
-apply_within routes live rows (Delete prefix gateway) = deleted routes live rows prefix gateway (paths_at rows prefix)
-apply_within routes live rows Flush = flushed rows
-apply_within routes live rows (Tick ms) = record { table = rows; reply = Nothing }
-apply_within routes live rows Sync = record { table = rows; reply = Nothing }
-apply_within routes live rows (Algo setting) = record { table = rows; reply = Nothing }
+apply_within routes live rows command = apply_by (settled routes live) rows command
 
 -- apply: what a command does to the table, and the reply
 abbrev pub apply : {w : _} → Table → Command w → Outcome

@@ -15,7 +15,10 @@ mod rib;
 mod rows;
 
 pub use command::{Command, Refusal, Reply};
-pub use laws::{law_live_targets_are_counted, law_numbers_differ, law_numbers_lead_back};
+pub use laws::{
+    law_limits_are_tried, law_live_targets_are_counted, law_numbers_differ, law_numbers_lead_back,
+    law_tables_are_within,
+};
 pub use plan::{PLAN_MAX, Plan, PushError};
 pub use rib::{ROUTES_MAX, Rib, TARGETS_MAX};
 pub use rows::Rows;

@@ -4,12 +4,16 @@ ghost use Rattle.prefix_width.specs.Nexthop.{Hop};
 ghost use Rattle.prefix_width.specs.Order.{hop_cmp};
 ghost use Rattle.nhgrp_slots.specs.PathList.{hops};
 ghost use Rattle.counted_map.specs.Counts.{count_of, linked_all, unlinked_all, times};
+ghost use Rattle.rib_store.specs.declared.rib.TheConstants.{ROUTES_MAX, TARGETS_MAX};
+ghost use Rattle.rib_store.specs.Table.{left_by_flush};
+ghost use Rattle.rib_store.specs.Uses.{IsRib};
 
 use crate::OutOfMemory;
 use nhgrp_slots::{GroupTable, Paths, Target};
 use nhop_table::NhopTable;
-use prefix_width::{Nexthop, Path};
+use prefix_width::{Nexthop, Path, Prefix};
 use std::alloc::Global;
+use std::collections::BTreeMap;
 use std::marker::Model;
 
 /// How often each nexthop and each group is used.
@@ -246,4 +250,18 @@ fn push_groups<const W: u32>(
         targets.push(Target::Many(group))?;
     }
     Ok(())
+}
+
+/// Undoes the links of the routes that a flush takes out.
+pub fn unlink_flushed<const W: u32>(links: &mut Links<W>, routes: &BTreeMap<Prefix<W>, Paths<W>>)
+    requires { IsRib ROUTES_MAX TARGETS_MAX routes.now.entries links.old }
+    ensures { IsRib ROUTES_MAX TARGETS_MAX (left_by_flush routes.now.entries) links.new }
+{
+    let _live = links.live();
+    for (prefix, paths) in routes.iter() {
+        let _prefix = prefix;
+        if paths.has_via() {
+            links.unlink(paths);
+        }
+    }
 }

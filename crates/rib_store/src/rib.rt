@@ -1,13 +1,13 @@
 ghost use Rattle.std.specs.Prelude.{◌≡◌, ◌<◌, ◌≤◌, IfOk, OnOk, OnErr, [], length, slice_get, Some, None, not, option_copied};
 ghost use Rattle.nhgrp_slots.specs.PathList.{has_via};
 ghost use Rattle.rib_store.specs.declared.command.Reply.TheVariants.{Added};
-ghost use Rattle.rib_store.specs.Table.{Table, apply, settled, added, changed, replaced, deleted, flushed, paths_at, drop_row, left_by_flush};
+ghost use Rattle.rib_store.specs.Table.{Table, apply, settled, added, changed, replaced, deleted, flushed, paths_at, drop_row};
 ghost use Rattle.rib_store.specs.Targets.{live};
 ghost use Rattle.rib_store.specs.Uses.{IsRib};
 
 use crate::OutOfMemory;
 use crate::command::{Command, Refusal, Reply};
-use crate::links::Links;
+use crate::links::{Links, unlink_flushed};
 use nhgrp_slots::{Paths, Target};
 use prefix_width::{Addr, Path, Prefix};
 use std::alloc::Global;
@@ -146,8 +146,8 @@ impl<const W: u32> Rib<W> {
 
     /// Adds a path to the prefix's route, or the route where there is none.
     fn add(&mut self, alloc: Global, prefix: Prefix<W>, path: Path<W>) -> Result<Reply, OutOfMemory>
-        ensures table { OnOk result (self.new ≡ (added ROUTES_MAX TARGETS_MAX self.old prefix.entry path.entry (paths_at self.old prefix.entry)).table) }
-        ensures reply { IfOk result (λ r. r ≡ (added ROUTES_MAX TARGETS_MAX self.old prefix.entry path.entry (paths_at self.old prefix.entry)).reply) }
+        ensures table { OnOk result (self.new ≡ (added (settled ROUTES_MAX TARGETS_MAX) self.old prefix.entry path.entry (paths_at self.old prefix.entry)).table) }
+        ensures reply { IfOk result (λ r. r ≡ (added (settled ROUTES_MAX TARGETS_MAX) self.old prefix.entry path.entry (paths_at self.old prefix.entry)).reply) }
         ensures err { OnErr result (self.new ≡ self.old) }
     {
         match self.routes.get(&prefix) {
@@ -182,8 +182,8 @@ impl<const W: u32> Rib<W> {
         prefix: Prefix<W>,
         path: Path<W>,
     ) -> Result<Reply, OutOfMemory>
-        ensures table { OnOk result (self.new ≡ (changed ROUTES_MAX TARGETS_MAX self.old prefix.entry path.entry (paths_at self.old prefix.entry)).table) }
-        ensures reply { IfOk result (λ r. r ≡ (changed ROUTES_MAX TARGETS_MAX self.old prefix.entry path.entry (paths_at self.old prefix.entry)).reply) }
+        ensures table { OnOk result (self.new ≡ (changed (settled ROUTES_MAX TARGETS_MAX) self.old prefix.entry path.entry (paths_at self.old prefix.entry)).table) }
+        ensures reply { IfOk result (λ r. r ≡ (changed (settled ROUTES_MAX TARGETS_MAX) self.old prefix.entry path.entry (paths_at self.old prefix.entry)).reply) }
         ensures err { OnErr result (self.new ≡ self.old) }
     {
         let paths = Paths::one(alloc, path)?;
@@ -214,8 +214,8 @@ impl<const W: u32> Rib<W> {
         prefix: Prefix<W>,
         gateway: Option<Addr<W>>,
     ) -> Result<Reply, OutOfMemory>
-        ensures table { OnOk result (self.new ≡ (deleted ROUTES_MAX TARGETS_MAX self.old prefix.entry gateway.entry (paths_at self.old prefix.entry)).table) }
-        ensures reply { IfOk result (λ r. r ≡ (deleted ROUTES_MAX TARGETS_MAX self.old prefix.entry gateway.entry (paths_at self.old prefix.entry)).reply) }
+        ensures table { OnOk result (self.new ≡ (deleted (settled ROUTES_MAX TARGETS_MAX) self.old prefix.entry gateway.entry (paths_at self.old prefix.entry)).table) }
+        ensures reply { IfOk result (λ r. r ≡ (deleted (settled ROUTES_MAX TARGETS_MAX) self.old prefix.entry gateway.entry (paths_at self.old prefix.entry)).reply) }
         ensures err { OnErr result (self.new ≡ self.old) }
     {
         match self.routes.get(&prefix) {
@@ -277,8 +277,8 @@ fn replace<const W: u32>(
 ) -> Result<Reply, OutOfMemory>
     requires { IsRib ROUTES_MAX TARGETS_MAX routes.old.entries links.old }
     ensures rib { IsRib ROUTES_MAX TARGETS_MAX routes.new.entries links.new }
-    ensures table { OnOk result (routes.new.entries ≡ (replaced ROUTES_MAX TARGETS_MAX routes.old.entries prefix.now paths.entry reply (paths_at routes.old.entries prefix.now)).table) }
-    ensures reply { IfOk result (λ r. r ≡ (replaced ROUTES_MAX TARGETS_MAX routes.old.entries prefix.now paths.entry reply (paths_at routes.old.entries prefix.now)).reply) }
+    ensures table { OnOk result (routes.new.entries ≡ (replaced (settled ROUTES_MAX TARGETS_MAX) routes.old.entries prefix.now paths.entry reply (paths_at routes.old.entries prefix.now)).table) }
+    ensures reply { IfOk result (λ r. r ≡ (replaced (settled ROUTES_MAX TARGETS_MAX) routes.old.entries prefix.now paths.entry reply (paths_at routes.old.entries prefix.now)).reply) }
     ensures err { OnErr result (routes.new.entries ≡ routes.old.entries) }
 {
     let _list = paths.as_slice();
@@ -293,18 +293,4 @@ fn replace<const W: u32>(
     let old = mem::replace(present, paths);
     links.unlink(&old);
     Ok(reply)
-}
-
-/// Undoes the links of the routes that a flush takes out.
-fn unlink_flushed<const W: u32>(links: &mut Links<W>, routes: &BTreeMap<Prefix<W>, Paths<W>>)
-    requires { IsRib ROUTES_MAX TARGETS_MAX routes.now.entries links.old }
-    ensures { IsRib ROUTES_MAX TARGETS_MAX (left_by_flush routes.now.entries) links.new }
-{
-    let _live = links.live();
-    for (prefix, paths) in routes.iter() {
-        let _prefix = prefix;
-        if paths.has_via() {
-            links.unlink(paths);
-        }
-    }
 }

@@ -1,5 +1,5 @@
 use Rattle.std.proofs.Common.{ap, option_copied}
-use Rattle.rib_store.proofs.CountedLemmas.{after_none, after_some}
+use Rattle.rib_store.proofs.LiveLemmas.{after_none, after_some}
 use Rattle.rib_store.proofs.links.Links.live_after.Goals as goal
 
 pub overflow_sub-result : goal.overflow_sub-result

@@ -4,7 +4,7 @@ use Rattle.std.proofs.lemmas.Result.{IfOk-weaker}
 use Rattle.rib_store.specs.Table.{Table}
 use Rattle.rib_store.specs.Targets.{live, targets_of}
 use Rattle.rib_store.specs.Live.{live_hops}
-use Rattle.rib_store.proofs.CountedLemmas.{keys_nhops, keys_groups}
+use Rattle.rib_store.proofs.LiveLemmas.{keys_nhops, keys_groups}
 use Rattle.rib_store.proofs.rib.Rib.targets.Goals as goal
 
 pub returns : goal.returns

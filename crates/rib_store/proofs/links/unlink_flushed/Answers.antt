@@ -2,7 +2,7 @@ use Rattle.std.proofs.Common.{refl, sym, ◌∙◌, subst, lit<}
 use Rattle.rib_store.specs.Uses.{Uses}
 use Rattle.rib_store.specs.Table.{Table}
 use Rattle.rib_store.proofs.SettledLemmas.{Flushing, flush_starts, flush_has, flush_skips, flush_ends}
-use Rattle.rib_store.proofs.rib.unlink_flushed.Goals as goal
+use Rattle.rib_store.proofs.links.unlink_flushed.Goals as goal
 
 pub loop-prefix-init : goal.loop-prefix-init
 loop-prefix-init g c =
