@@ -43,7 +43,7 @@ impl Model for Cutter {
 }
 
 impl Cutter {
-    ghost use Rattle.std.specs.Prelude.{◌≡◌, ℕ, ◌+◌, ◌<◌, ◌≤◌, ◌^◌};
+    ghost use Rattle.std.specs.Prelude.{◌≡◌, ℕ, ◌+◌, ◌<◌, ◌≤◌, ◌^◌, nat_lt};
     ghost use Rattle.plan_cut.specs.Course.{Algos, Course, IsCommand};
     ghost use Rattle.plan_cut.specs.Versions.{asks, differs_at, latest, makes, makes_at_end};
     ghost use Rattle.plan_cut.specs.Standing.{StandsAt, beat_of, counted, cut_of};
@@ -89,8 +89,9 @@ impl Cutter {
         }
     }
 
-    /// Says whether the end of the plan cuts a version.
+    /// Says whether the end of the plan cuts a version: it does where changes are pending.
     pub fn finish(&mut self) -> Cut
+        ensures pending { result ≡ cut_of (nat_lt 0 self.old.pending) }
         ensures cuts { (course : Course) → StandsAt course course.len self.old
             → result ≡ cut_of (makes_at_end course) }
         ensures spent { self.new ≡ record self.old { pending = 0 } }
