@@ -31,6 +31,12 @@ pub record FollowsAt {w : ℕ} (plan : List (Command w)) (n : ℕ) (family : Fam
 abbrev pub Follows : {w : ℕ} → List (Command w) → Family w → Type 0
 Follows plan family = FollowsAt plan family.commands family
 
+-- the last version is the same, with its module and its rows
+pub record KeepsVersion {w : ℕ} (old new : Family w) : Type 0 where
+  pub number : new.version ≡ old.version
+  pub kind : new.kind ≡ old.kind
+  pub rows : new.rows ≡ old.rows
+
 -- what a cut leaves of a version: the new where one is cut, else the old
 abbrev pub kept_by : {A : Type 0} → Cut → A → A → A
 kept_by Now new old = new

@@ -1,7 +1,9 @@
 -- Output: the text of a replay of a script, where each get is answered at a version of its family.
 use Rattle.std.specs.Prelude.{ℕ, ◌+◌, List, [], ◌∷◌, ◌++◌, length, Option, Some, None, option_map, slice_get}
 use Rattle.std.specs.List.{flat_map, filter_map}
+use Rattle.std.specs.Option.{option_and_then}
 use Rattle.prefix_width.specs.Nexthop.{Hop}
+use Rattle.counted_map.specs.Counts.{Counts}
 use Rattle.rib_store.specs.declared.command.Command.{Command}
 use Rattle.rib_store.specs.declared.command.Reply.{Reply}
 use Rattle.rib_store.specs.declared.command.Reply.TheVariants.{Flushed}
@@ -14,6 +16,32 @@ use Rattle.route_lang.specs.declared.line.Line.TheVariants.{Change, Quiet, Get4,
 use Rattle.route_lang.specs.Script.{Reading}
 use Rattle.replay_run.specs.Line.{numbered, reply_text, get_text, packets_text, fib_text}
 use Rattle.replay_run.specs.Packets.{packets_of}
+
+-- ---- one family's part of a script
+
+-- what a get looks up
+pub record Get : Type 0 where
+  pub addr : ℕ
+  pub flow : ℕ
+
+-- one family's part of a script: its plan, and what a line looks up, if it is a get of this family
+pub record Part (w : ℕ) : Type 0 where
+  pub plan : List (Command w)
+  pub get_of : Line → Option Get
+
+abbrev pub get4_of : Line → Option Get
+get4_of (Get4 line addr flow at) = Some (record { addr = addr; flow = flow })
+get4_of line = None
+
+abbrev pub get6_of : Line → Option Get
+get6_of (Get6 line addr flow at) = Some (record { addr = addr; flow = flow })
+get6_of line = None
+
+abbrev pub inet_of : Reading → Part 32
+inet_of script = record { plan = script.inet; get_of = get4_of }
+
+abbrev pub inet6_of : Reading → Part 128
+inet6_of script = record { plan = script.inet6; get_of = get6_of }
 
 -- ---- versions
 
@@ -80,24 +108,30 @@ abbrev pub replied : ℕ → Option Reply → List ℕ
 replied line None = []
 replied line (Some reply) = numbered line (reply_text reply)
 
+-- what is written for a get that is answered at a version
+abbrev pub answered : {w : ℕ} → List (Command w) → ℕ → ℕ → ℕ → ℕ → List ℕ
+answered {w} plan v line addr flow = numbered line (get_text w addr v (answer_at w plan v addr flow))
+
 -- what is written for a line of the script, a get being answered at a version
 abbrev pub line_text : Reading → Line × ℕ → List ℕ
 line_text script (Change line inet inet6, v) = replied line (line_reply script inet inet6)
 line_text script (Quiet line inet inet6, v) = []
-line_text script (Get4 line addr flow at, v) = numbered line (get_text 32 addr v (answer_at 32 script.inet v addr flow))
-line_text script (Get6 line addr flow at, v) = numbered line (get_text 128 addr v (answer_at 128 script.inet6 v addr flow))
+line_text script (Get4 line addr flow at, v) = answered script.inet v line addr flow
+line_text script (Get6 line addr flow at, v) = answered script.inet6 v line addr flow
 
 -- ---- the whole
 
--- the nexthop that a get of inet gives, at its version
-abbrev pub given4 : Reading → Line × ℕ → Option Hop
-given4 script (Get4 line addr flow at, v) = answer_at 32 script.inet v addr flow
-given4 script line = None
+-- the nexthop that a line gives at its version, if it is a get of the family
+abbrev pub given : {w : ℕ} → Part w → Line × ℕ → Option Hop
+given {w} part (line, v) = option_and_then (λ (get : Get). answer_at w part.plan v get.addr get.flow) (part.get_of line)
 
--- the nexthop that a get of inet6 gives, at its version
-abbrev pub given6 : Reading → Line × ℕ → Option Hop
-given6 script (Get6 line addr flow at, v) = answer_at 128 script.inet6 v addr flow
-given6 script line = None
+-- the packets of a family: those of the nexthops that its gets gave
+abbrev pub packets_in : {w : ℕ} → Part w → List (Line × ℕ) → Counts Hop
+packets_in part lines = packets_of (filter_map (given part) lines)
+
+-- a line for each nexthop that has some
+abbrev pub packets_lines : {w : ℕ} → Part w → List (Line × ℕ) → List ℕ
+packets_lines {w} part lines = flat_map (packets_text w) (packets_in part lines)
 
 -- a family's last version, the plan's end included
 abbrev pub plan_text : {w : ℕ} → List (Command w) → List ℕ
@@ -108,8 +142,7 @@ plan_text {w} plan =
 abbrev pub text_of : Reading → List (Line × ℕ) → List ℕ
 text_of script lines =
     flat_map (line_text script) lines
-    ++ (flat_map (packets_text 32) (packets_of (filter_map (given4 script) lines))
-    ++ (flat_map (packets_text 128) (packets_of (filter_map (given6 script) lines))
+    ++ (packets_lines (inet_of script) lines ++ (packets_lines (inet6_of script) lines
     ++ (plan_text script.inet ++ plan_text script.inet6)))
 
 -- the output of a script whose gets are answered at these versions

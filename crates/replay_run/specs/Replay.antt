@@ -1,16 +1,17 @@
 -- A replay under way: what is done, joined with what the rest of the lines gives, is the whole.
-use Rattle.std.specs.Prelude.{◌≡◌, ℕ, ◌+◌, ◌≤◌, List, ◌++◌, length}
+use Rattle.std.specs.Prelude.{◌≡◌, ℕ, ◌+◌, ◌≤◌, List, [], Option, ◌++◌, length}
 use Rattle.std.specs.List.{flat_map, filter_map}
 use Rattle.prefix_width.specs.Nexthop.{Hop}
 use Rattle.prefix_width.specs.Order.{hop_cmp}
 use Rattle.counted_map.specs.Counts.{Counts, IsCounts, count_of, linked_all}
+use Rattle.rib_store.specs.declared.command.Command.{Command}
 use Rattle.route_lang.specs.declared.line.Line.{Line}
 use Rattle.route_lang.specs.declared.script.TheConstants.{LINES_MAX}
 use Rattle.route_lang.specs.Script.{Reading}
-use Rattle.route_lang.specs.Fits.{Positions, Fits}
-use Rattle.replay_run.specs.Family.{Follows}
-use Rattle.replay_run.specs.Output.{line_text, given4, given6, paired, serial_versions}
-use Rattle.replay_run.specs.Packets.{packets_of}
+use Rattle.route_lang.specs.Fits.{Positions, Fits, behind}
+use Rattle.replay_run.specs.Family.{Follows, IsNext}
+use Rattle.replay_run.specs.Output.{Part, inet_of, inet6_of, line_text, given, packets_in, paired, serial_versions}
+use Rattle.replay_run.specs.declared.family_replay.FamilyReplay.{FamilyReplay}
 use Rattle.replay_run.specs.declared.serial_replay.Replay.{Replay}
 
 -- packets are counted, and so many more may be, of any nexthops
@@ -23,17 +24,40 @@ pub record HasRoom (packets : Counts Hop) (more : ℕ) : Type 0 where
 abbrev pub in_turn : Reading → List Line → List (Line × ℕ)
 in_turn script lines = paired lines (serial_versions script lines)
 
+-- ---- a family
+
+-- nothing was done: any plan is followed, and no packet was counted
+pub record HasBegun {w : ℕ} (replay : FamilyReplay w) : Type 0 where
+  pub follows : (plan : List (Command w)) → Follows plan replay.family
+  pub commands : replay.family.commands ≡ 0
+  pub packets : replay.packets ≡ []
+
+-- the command of a line, if it has one in this plan, may be run
+pub record MayRunLine {w : ℕ} (plan : List (Command w)) (position : Option ℕ) (replay : FamilyReplay w) : Type 0 where
+  pub follows : Follows plan replay.family
+  pub next : IsNext position replay.family.commands (length plan)
+
+-- it was run, and no packet was counted
+pub record HasRunLine {w : ℕ} (plan : List (Command w)) (position : Option ℕ) (old new : FamilyReplay w) : Type 0 where
+  pub follows : Follows plan new.family
+  pub commands : new.family.commands ≡ behind old.family.commands position
+  pub packets : new.packets ≡ old.packets
+
+-- these lines are left to a family
+pub record IsPartUnderWay {w : ℕ} (part : Part w) (script : Reading) (rest : List Line) (replay : FamilyReplay w) : Type 0 where
+  pub follows : Follows part.plan replay.family
+  pub packets : linked_all hop_cmp replay.packets (filter_map (given part) (in_turn script rest)) ≡ packets_in part (in_turn script script.lines)
+  pub room : HasRoom replay.packets (length rest)
+
+-- ---- both families
+
 -- how many commands of each plan were run
 abbrev pub commands_run : Replay → Positions
-commands_run replay = record { inet = replay.inet.commands; inet6 = replay.inet6.commands }
+commands_run replay = record { inet = replay.inet.family.commands; inet6 = replay.inet6.family.commands }
 
 -- these lines are left
 pub record IsUnderWay (script : Reading) (rest : List Line) (replay : Replay) : Type 0 where
-  pub inet : Follows script.inet replay.inet
-  pub inet6 : Follows script.inet6 replay.inet6
+  pub inet : IsPartUnderWay (inet_of script) script rest replay.inet
+  pub inet6 : IsPartUnderWay (inet6_of script) script rest replay.inet6
   pub fits : Fits script.inet script.inet6 (commands_run replay) rest
   pub text : replay.out.items ++ flat_map (line_text script) (in_turn script rest) ≡ flat_map (line_text script) (in_turn script script.lines)
-  pub packets : linked_all hop_cmp replay.packets (filter_map (given4 script) (in_turn script rest)) ≡ packets_of (filter_map (given4 script) (in_turn script script.lines))
-  pub packets6 : linked_all hop_cmp replay.packets6 (filter_map (given6 script) (in_turn script rest)) ≡ packets_of (filter_map (given6 script) (in_turn script script.lines))
-  pub room : HasRoom replay.packets (length rest)
-  pub room6 : HasRoom replay.packets6 (length rest)

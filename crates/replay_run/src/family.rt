@@ -1,13 +1,12 @@
-ghost use Rattle.std.specs.Prelude.{◌≡◌, ◌+◌, ◌^◌, ◌<◌, ◌≤◌, List, not, IfOk, IfSome, OnOk, length, Some};
+ghost use Rattle.std.specs.Prelude.{◌≡◌, ◌+◌, ◌^◌, ◌<◌, List, not, IfOk, OnOk, OnErr, length, Some};
 ghost use Rattle.prefix_width.specs.Choice.{SettingSuits, is_kind};
 ghost use Rattle.rib_store.specs.Plan.{IsWrongModule};
 ghost use Rattle.rib_store.specs.Table.{table_after};
 ghost use Rattle.rib_store.specs.declared.command.Command.{Command};
 ghost use Rattle.rib_store.specs.declared.rib.TheConstants.{ROUTES_MAX};
 ghost use Rattle.plan_cut.specs.PlanCourse.{last_version, set_by};
-ghost use Rattle.route_lang.specs.Fits.{behind};
-ghost use Rattle.replay_run.specs.Family.{Follows, FlushesAtMost, IsNext, kept_by};
-ghost use Rattle.replay_run.specs.Output.{reply_at, reply_of};
+ghost use Rattle.replay_run.specs.Family.{Follows, FlushesAtMost, KeepsVersion, kept_by};
+ghost use Rattle.replay_run.specs.Output.{reply_at};
 
 use crate::OutOfMemory;
 use engine_set::choose;
@@ -55,35 +54,16 @@ impl<const W: u32> Family<W> {
         }
     }
 
-    /// Runs the next command of the plan, if a line has one there.
-    pub(crate) fn run_line(
-        &mut self,
-        alloc: Global,
-        plan: &Plan<W>,
-        position: Option<u32>,
-    ) -> Result<Option<Reply>, OutOfMemory>
-        requires follows { Follows plan.now self.old }
-        requires next { IsNext position self.old.commands (length plan.now) }
-        ensures follows { OnOk result (Follows plan.now self.new) }
-        ensures commands { OnOk result (self.new.commands ≡ behind self.old.commands position) }
-        ensures reply { IfOk result (λ reply. reply ≡ reply_of plan.now position) }
-        ensures flushes { IfOk result (λ reply. IfSome reply (FlushesAtMost ROUTES_MAX)) }
-    {
-        if position.is_none() {
-            return Ok(None);
-        }
-        let reply = self.run(alloc, plan)?;
-        Ok(Some(reply))
-    }
-
     /// Runs the next command of the plan, and keeps the version that it makes, if it makes one.
-    fn run(&mut self, alloc: Global, plan: &Plan<W>) -> Result<Reply, OutOfMemory>
+    /// Where memory is wanting the last version is as before; the command may have been run.
+    pub(crate) fn run(&mut self, alloc: Global, plan: &Plan<W>) -> Result<Reply, OutOfMemory>
         requires follows { Follows plan.now self.old }
         requires inside { self.old.commands < length plan.now }
         ensures follows { OnOk result (Follows plan.now self.new) }
         ensures commands { OnOk result (self.new.commands ≡ self.old.commands + 1) }
         ensures reply { IfOk result (λ reply. Some reply ≡ reply_at plan.now self.old.commands) }
         ensures flushes { IfOk result (FlushesAtMost ROUTES_MAX) }
+        ensures err { OnErr result (KeepsVersion self.old self.new) }
     {
         let command = plan.command(self.commands);
         let _most = self.rib.len();
@@ -107,6 +87,7 @@ impl<const W: u32> Family<W> {
         ensures rib { OnOk result (self.new.rib ≡ self.old.rib) }
         ensures setting { OnOk result (self.new.setting ≡ self.old.setting) }
         ensures cutter { OnOk result (self.new.cutter ≡ self.old.cutter) }
+        ensures err { OnErr result (self.new ≡ self.old) }
     {
         match cut {
             Cut::Stay => {}

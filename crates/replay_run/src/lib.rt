@@ -5,6 +5,7 @@
 #![tactic(auto)]
 
 mod family;
+mod family_replay;
 mod gate;
 mod laws;
 mod output;

@@ -1,0 +1,130 @@
+ghost use Rattle.std.specs.Prelude.{◌≡◌, ◌++◌, IfOk, IfSome, OnOk, OnErr, length, option_to_list};
+ghost use Rattle.std.specs.List.{flat_map};
+ghost use Rattle.addr_text.specs.Address.{IsFamilyWidth};
+ghost use Rattle.prefix_width.specs.Order.{hop_cmp};
+ghost use Rattle.counted_map.specs.Counts.{linked_all};
+ghost use Rattle.rib_store.specs.Answer.{answer};
+ghost use Rattle.rib_store.specs.declared.rib.TheConstants.{ROUTES_MAX};
+ghost use Rattle.replay_run.specs.Family.{Follows, FlushesAtMost, KeepsVersion};
+ghost use Rattle.replay_run.specs.Line.{numbered, get_text, packets_text};
+ghost use Rattle.replay_run.specs.Output.{plan_text, reply_of};
+ghost use Rattle.replay_run.specs.Replay.{HasBegun, HasRoom, HasRunLine, MayRunLine};
+
+use crate::OutOfMemory;
+use crate::family::Family;
+use crate::output::{write_fib, write_get, write_packets};
+use counted_map::CountedMap;
+use prefix_width::{Addr, Nexthop};
+use rib_store::{Plan, Reply};
+use std::alloc::Global;
+
+/// One family of a replay under way: what its commands have left, and the packets of its gets.
+#[derive(Drop)]
+pub(crate) struct FamilyReplay<const W: u32> {
+    pub(crate) family: Family<W>,
+    /// How many gets each nexthop was given to.
+    pub(crate) packets: CountedMap<Nexthop<W>>,
+}
+
+impl<const W: u32> FamilyReplay<W> {
+    /// Nothing was done.
+    pub(crate) fn new(alloc: Global) -> Self
+        ensures { HasBegun result }
+    {
+        FamilyReplay {
+            family: Family::new(alloc),
+            packets: CountedMap::new(alloc),
+        }
+    }
+
+    /// Runs the command of a line, if it has one in this plan, and gives its reply. Where memory is
+    /// wanting the last version is as before.
+    pub(crate) fn run_line(
+        &mut self,
+        alloc: Global,
+        plan: &Plan<W>,
+        position: Option<u32>,
+    ) -> Result<Option<Reply>, OutOfMemory>
+        requires { MayRunLine plan.now position self.old }
+        ensures run { OnOk result (HasRunLine plan.now position self.old self.new) }
+        ensures reply { IfOk result (λ reply. reply ≡ reply_of plan.now position) }
+        ensures flushes { IfOk result (λ reply. IfSome reply (FlushesAtMost ROUTES_MAX)) }
+        ensures err { OnErr result (KeepsVersion self.old.family self.new.family) }
+        ensures packets { self.new.packets ≡ self.old.packets }
+    {
+        if position.is_none() {
+            return Ok(None);
+        }
+        let reply = self.family.run(alloc, plan)?;
+        Ok(Some(reply))
+    }
+
+    /// Answers a get at the last version: appends its line, and counts its packet. Where memory is
+    /// wanting no packet was counted.
+    pub(crate) fn answer_get(
+        &mut self,
+        alloc: Global,
+        line: u32,
+        addr: &Addr<W>,
+        flow: u32,
+        out: &mut Vec<u8>,
+    ) -> Result<(), OutOfMemory>
+        requires width { IsFamilyWidth W }
+        requires room { HasRoom self.old.packets 1 }
+        ensures family { self.new.family ≡ self.old.family }
+        ensures packets { OnOk result (self.new.packets ≡ linked_all hop_cmp self.old.packets (option_to_list (answer W self.old.family.rows addr.now flow))) }
+        ensures out { OnOk result (out.new.items ≡ out.old.items ++ numbered line (get_text W addr.now self.old.family.version (answer W self.old.family.rows addr.now flow))) }
+        ensures err { OnErr result (self.new.packets ≡ self.old.packets) }
+    {
+        let nexthop = self.family.rows.answer(addr, flow);
+        write_get(
+            alloc,
+            line,
+            addr,
+            self.family.version,
+            nexthop.as_ref(),
+            out,
+        )?;
+        count_packet(&mut self.packets, nexthop)
+    }
+
+    /// Appends the line of each nexthop's packets, in nexthop order.
+    pub(crate) fn write_packets(&self, alloc: Global, out: &mut Vec<u8>) -> Result<(), OutOfMemory>
+        requires { IsFamilyWidth W }
+        ensures { OnOk result (out.new.items ≡ out.old.items ++ flat_map (packets_text W) self.now.packets) }
+    {
+        for (nexthop, count) in self.packets.iter() {
+            write_packets(alloc, u64::from(*count), nexthop, out)?;
+        }
+        Ok(())
+    }
+
+    /// Appends the line of the last version of the plan, all of whose commands were run.
+    pub(crate) fn finish(self, plan: &Plan<W>, out: &mut Vec<u8>) -> Result<(), OutOfMemory>
+        requires width { IsFamilyWidth W }
+        requires follows { Follows plan.now self.family }
+        requires all { self.family.commands ≡ length plan.now }
+        ensures { OnOk result (out.new.items ≡ out.old.items ++ plan_text plan.now) }
+    {
+        let last = self.family.finish(plan);
+        write_fib::<W>(last.version, last.routes, last.kind, out)
+    }
+}
+
+/// Counts a packet for the nexthop of a get, if there is one.
+fn count_packet<const W: u32>(
+    packets: &mut CountedMap<Nexthop<W>>,
+    nexthop: Option<Nexthop<W>>,
+) -> Result<(), OutOfMemory>
+    requires { HasRoom packets.old 1 }
+    ensures ok { OnOk result (packets.new ≡ linked_all hop_cmp packets.old (option_to_list nexthop.entry)) }
+    ensures err { OnErr result (packets.new ≡ packets.old) }
+{
+    let Some(nexthop) = nexthop else {
+        return Ok(());
+    };
+    if packets.increase(&nexthop) {
+        return Ok(());
+    }
+    packets.insert(nexthop)
+}
