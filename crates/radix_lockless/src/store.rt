@@ -3,6 +3,7 @@ ghost use Rattle.prefix_width.specs.Prefix.{Block};
 ghost use Rattle.prefix_width.specs.Longest.{longest};
 ghost use Rattle.module_trait.specs.Nodes.{Updates, node_at, frozen_at};
 ghost use Rattle.module_trait.specs.Rows.{index_of};
+ghost use Rattle.radix_lockless.specs.Store.{by_width};
 ghost use Rattle.radix_lockless.specs.Trie.{StandsFor};
 
 use crate::OutOfMemory;
@@ -49,7 +50,9 @@ impl<const W: u32> NodeStore<W> {
     }
 
     /// How many bytes a node takes.
-    pub(crate) fn node_size() -> usize {
+    pub(crate) fn node_size() -> usize
+        ensures { result ≡ by_width W 16 32 }
+    {
         if W <= 32 {
             size_of::<Packed<W, u32>>()
         } else {

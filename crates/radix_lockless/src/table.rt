@@ -3,6 +3,7 @@ ghost use Rattle.prefix_width.specs.Prefix.{Block};
 ghost use Rattle.module_trait.specs.Edit.{undone, undone_all, AreOfDistinct, HaveAfter};
 ghost use Rattle.module_trait.specs.View.{row_at};
 ghost use Rattle.radix_lockless.specs.Form.{linked_of};
+ghost use Rattle.radix_lockless.specs.Store.{by_width};
 ghost use Rattle.radix_lockless.specs.Table.{IsEdited, IsRadixOf, IsSameAs, IsSound, nodes_of};
 ghost use Rattle.radix_lockless.specs.Trie.{DifferAtMost};
 
@@ -45,7 +46,9 @@ struct FrozenTrie<const W: u32> {
 
 impl<const W: u32> RadixTable<W> {
     /// How many bytes a node takes: 16 where its address takes 32 bits, and 32 where it takes more.
-    pub fn node_size() -> usize {
+    pub fn node_size() -> usize
+        ensures { result ≡ by_width W 16 32 }
+    {
         NodeStore::<W>::node_size()
     }
 }

@@ -191,12 +191,6 @@ fn the_preference_is_less_from_100000_routes_on(rt: HostRuntime) {
     }
 }
 
-#[test]
-fn nodes_are_as_narrow_as_their_addresses(rt: HostRuntime) {
-    assert_eq!(rt; RadixTable::<32>::node_size(), 16);
-    assert_eq!(rt; RadixTable::<128>::node_size(), 32);
-}
-
 // The next number of a linear congruential generator.
 fn next_draw(x: u64) -> u64 {
     x.wrapping_mul(6_364_136_223_846_793_005)
