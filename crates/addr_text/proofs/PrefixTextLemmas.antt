@@ -95,14 +95,14 @@ module _ (front rest : List ℕ) (no_slash : HasNoSlash front) where
       list_any_at is_slash (front ++ 47 ∷ rest) (length front) (omega arith) (ap is_slash (get_or-append_seam front 47 rest 0))
 
 -- a text with a slash is not the word `default`
-not_default : (text : List ℕ) → list_any is_slash text ≡ true → bytes_eq text (codes "default") ≡ false
+pub not_default : (text : List ℕ) → list_any is_slash text ≡ true → bytes_eq text (codes "default") ≡ false
 not_default text some =
     false_from_ne_true (bytes_eq text (codes "default")) λ same.
     both_ways (list_any is_slash text) (ap (list_any is_slash) ((bytes_eq-Decides text (codes "default")).0 same)) some
 
 -- ---- what is written reads as the prefix
 
-length_of-decimal : (w len : ℕ) → len ≤ w → w ≤ 128 → length_of w (decimal len) ≡ Some len
+pub length_of-decimal : (w len : ℕ) → len ≤ w → w ≤ 128 → length_of w (decimal len) ≡ Some len
 length_of-decimal w len h most = rw (number_of-decimal len (omega arith), le-leb len w h) refl
 
 -- a block is the one that its own base and length make

@@ -1,4 +1,4 @@
-ghost use Rattle.addr_text.specs.Laws.{ReadsIpv4, ReadsIpv6, ReadsBackIpv4, ReadsBackIpv6, ReadsBackPrefix};
+ghost use Rattle.addr_text.specs.Laws.{ReadsIpv4, ReadsIpv6, ReadsPrefix, ReadsBackIpv4, ReadsBackIpv6, ReadsBackPrefix};
 
 /// Law: a text is read as an IPv4 address exactly where the grammar gives it that address.
 pub fn law_ipv4_grammar()
@@ -8,6 +8,11 @@ pub fn law_ipv4_grammar()
 /// Law: a text is read as an IPv6 address exactly where the grammar gives it that address.
 pub fn law_ipv6_grammar()
     ensures { ReadsIpv6 }
+{}
+
+/// Law: a text is read as a prefix exactly where the grammar gives it that prefix.
+pub fn law_prefix_grammar()
+    ensures { ReadsPrefix }
 {}
 
 /// Law: what is written of an IPv4 address reads as that address.

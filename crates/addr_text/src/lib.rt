@@ -10,7 +10,7 @@ mod read;
 mod write;
 
 pub use laws::{
-    law_ipv4_grammar, law_ipv4_read_back, law_ipv6_grammar, law_ipv6_read_back,
+    law_ipv4_grammar, law_ipv4_read_back, law_ipv6_grammar, law_ipv6_read_back, law_prefix_grammar,
     law_prefix_read_back,
 };
 pub use number::read_number;

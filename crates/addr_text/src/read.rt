@@ -1,8 +1,9 @@
-ghost use Rattle.std.specs.Prelude.{◌≡◌, ◌<◌, ◌≤◌, ℕ, List, length, position, is_some, MatchOption, IfSome, Some};
+ghost use Rattle.std.specs.Prelude.{◌≡◌, ◌↔◌, ◌<◌, ◌≤◌, ℕ, List, length, position, is_some, MatchOption, IfSome, Some};
 ghost use Rattle.std.specs.List.{list_any, before_first, after_first};
 ghost use Rattle.std.specs.Net.Grammar.{IsDotted, IsColonHex};
+ghost use Rattle.prefix_width.specs.Prefix.{Block};
 ghost use Rattle.addr_text.specs.Address.{IsFamilyWidth, WritesIpv4, WritesIpv6, ipv4_of, ipv6_of, address_of};
-ghost use Rattle.addr_text.specs.PrefixText.{is_slash, length_of, masked_by, default_block, block_of};
+ghost use Rattle.addr_text.specs.PrefixText.{WritesPrefix, is_slash, length_of, masked_by, default_block, block_of};
 
 use crate::number::read_number;
 use prefix_width::{Addr, Prefix};
@@ -58,6 +59,14 @@ fn v6_bits(text: &[u8]) -> Option<u128>
 /// The prefix that a text writes: `ADDR/LEN`, whose host bits are cleared; an address alone, which
 /// is a prefix of full length; or `default`, the prefix of length 0. `None` for any other text.
 pub fn read_prefix<const W: u32>(text: &[u8]) -> Option<Prefix<W>>
+    requires { IsFamilyWidth W }
+    ensures exact { result ≡ block_of W text.now }
+    ensures grammar { (b : Block) → (result ≡ Some b) ↔ WritesPrefix W text.now b }
+{
+    prefix_of(text)
+}
+
+fn prefix_of<const W: u32>(text: &[u8]) -> Option<Prefix<W>>
     requires { IsFamilyWidth W }
     ensures { result ≡ block_of W text.now }
 {

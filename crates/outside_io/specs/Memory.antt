@@ -68,3 +68,8 @@ taken_at manner call left len =
 abbrev pub put_at : Manner → ℕ → ℕ → ℕ → Put
 put_at manner call room len =
     if room == 0 || fails_at manner call then put.Failed else put.Took (min (min room manner.piece) len)
+
+-- how many bytes a sink took
+abbrev pub taken_by : Put → ℕ
+taken_by (put.Took n) = n
+taken_by put.Failed = 0

@@ -1,4 +1,4 @@
-ghost use Rattle.std.specs.Prelude.{◌≡◌, ◌+◌, ◌++◌, ◌==◌, ◌≤◌, ◌<◌, [], length, drop, take, IfOk, Some};
+ghost use Rattle.std.specs.Prelude.{◌≡◌, ◌+◌, ◌-◌, ◌++◌, ◌==◌, ◌≤◌, ◌<◌, [], length, drop, take, IfOk, Some};
 ghost use Rattle.std.specs.List.{list_any};
 ghost use Rattle.outside_io.specs.Outside.{Reads, Writes};
 
@@ -145,7 +145,7 @@ impl MemSink {
 
 impl Sink for MemSink {
     ghost use Rattle.outside_io.specs.Faults.{next_count, faults_after_write};
-    ghost use Rattle.outside_io.specs.Memory.{written_of, sink_faults, sink_manner, sink_calls, room_of, put_at};
+    ghost use Rattle.outside_io.specs.Memory.{written_of, sink_faults, sink_manner, sink_calls, room_of, put_at, taken_by};
 
     ghost written = { written_of };
 
@@ -161,6 +161,7 @@ impl Sink for MemSink {
         ensures faults { sink_faults self.new ≡ faults_after_write (sink_faults self.old) result }
         ensures calls { sink_calls self.new ≡ next_count (sink_calls self.old) }
         ensures manner { sink_manner self.new ≡ sink_manner self.old }
+        ensures room { room_of self.new ≡ room_of self.old - taken_by result }
     {
         self.calls = self.calls.saturating_add(1);
         let room = self.bytes.len() - self.len;

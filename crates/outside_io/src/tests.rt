@@ -1,4 +1,8 @@
-use crate::{MemSink, MemSource, ReadError, StdSink, StdSource, read_all, write_all};
+use crate::{
+    MemSink, MemSource, Put, ReadError, Sink, Source, StdSink, StdSource, Taken, read_all,
+    write_all,
+};
+use std::io;
 use std::test::Fail;
 
 #[test]
@@ -54,4 +58,53 @@ fn real_streams_are_adapted(rt: HostRuntime) -> Result<(), Fail> {
     assert!(rt; write_all(&mut sink, b"abcd").is_err());
     assert_eq!(rt; room, *b"abc");
     Ok(())
+}
+
+/// A stream whose first calls are interrupted, so many of them. Each later one moves one byte.
+#[derive(Drop)]
+struct Interrupted {
+    left: u32,
+}
+
+impl Interrupted {
+    fn call(&mut self) -> io::Result<()> {
+        if self.left == 0 {
+            return Ok(());
+        }
+        self.left -= 1;
+        Err(io::Error::from(io::ErrorKind::Interrupted))
+    }
+}
+
+impl io::Read for Interrupted {
+    fn read(&mut self, buf: &mut [u8]) -> io::Result<usize> {
+        self.call()?;
+        Ok(buf.len().min(1))
+    }
+}
+
+impl io::Write for Interrupted {
+    fn write(&mut self, buf: &[u8]) -> io::Result<usize> {
+        self.call()?;
+        Ok(buf.len().min(1))
+    }
+
+    fn flush(&mut self) -> io::Result<()> {
+        Ok(())
+    }
+}
+
+// So many interruptions, and how many calls fail before one succeeds.
+#[test]
+fn a_call_is_tried_again_at_100_interruptions_and_fails_at_one_more(rt: HostRuntime) {
+    for (left, fails) in [(0, 0), (100, 0), (101, 1), (201, 1), (202, 2)] {
+        let mut source = StdSource::new(Interrupted { left });
+        let mut sink = StdSink::new(Interrupted { left });
+        for _ in 0..fails {
+            assert_eq!(rt; source.read(&mut [0; 4]), Taken::Failed, "of {left}");
+            assert_eq!(rt; sink.write(b"abcd"), Put::Failed, "of {left}");
+        }
+        assert_eq!(rt; source.read(&mut [0; 4]), Taken::Some(1), "of {left}");
+        assert_eq!(rt; sink.write(b"abcd"), Put::Took(1), "of {left}");
+    }
 }

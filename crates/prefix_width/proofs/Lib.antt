@@ -1,3 +1,4 @@
 pub mod LongestLemmas
 pub mod OrderLemmas
 pub mod PrefixLemmas
+pub mod RangeLemmas

@@ -1,5 +1,5 @@
 -- Prefixes nest or share no address, and those that contain one address are ordered by length.
-use Rattle.std.proofs.Common.{◌≡◌, ◌==◌, ◌⊎◌, ℕ, ◌+◌, ◌-◌, ◌*◌, ◌/◌, ◌%◌, ◌^◌, ◌<◌, ◌≤◌, IsTrue, Bool, true, false, sym, ◌∙◌, ap, arith, inl, inr}
+use Rattle.std.proofs.Common.{◌≡◌, ℕ, ◌+◌, ◌-◌, ◌*◌, ◌/◌, ◌%◌, ◌^◌, ◌<◌, ◌≤◌, IsTrue, sym, ◌∙◌, ap, arith, inl, inr}
 use Rattle.std.proofs.Math.Nat.{pow-le-pow_right, div-eq_of_lt}
 use Rattle.std.proofs.lemmas.Nat.{shr-shr, shr_split, shr_below, row_fits, pow-add, pow_pos}
 use Rattle.std.proofs.lemmas.Bool.{cases_lt, cases_Bool}

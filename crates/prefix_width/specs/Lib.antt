@@ -1,5 +1,6 @@
 pub mod Choice
 pub mod Laws
+pub mod Limits
 pub mod Longest
 pub mod Nexthop
 pub mod NhKind

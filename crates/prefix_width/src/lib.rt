@@ -6,6 +6,7 @@
 
 mod addr;
 mod laws;
+mod limits;
 mod longest;
 mod module;
 mod nexthop;
@@ -13,9 +14,16 @@ mod path;
 mod prefix;
 
 pub use addr::Addr;
-pub use laws::{law_longest_match, law_nested, law_ordered_by_length};
+pub use laws::{
+    law_covers, law_longest_match, law_nested, law_order_of_addresses, law_order_of_nexthops,
+    law_order_of_paths, law_order_of_prefixes, law_ordered_by_length, law_range,
+};
+pub use limits::last_index;
 pub use longest::longest_match;
 pub use module::{Kind, Setting};
 pub use nexthop::{Nexthop, NhKind};
 pub use path::{Path, WEIGHT_MAX};
 pub use prefix::Prefix;
+
+#[cfg(test)]
+mod tests;

@@ -5,6 +5,7 @@ use Rattle.outside_io.proofs.reading.read_all.Given as goal
 
 abbrev pub invariant-reading : goal.invariant-reading
 invariant-reading g l = record {
+  within : length l.bytes.items ≤ l.limit;
   later : g.S.Source.faults l.fn.source ≤ g.S.Source.faults l.source;
   read : Consumes (g.S.Source.left l.fn.source) (g.S.Source.left l.source) l.bytes.items;
 }

@@ -1,4 +1,4 @@
-use Rattle.std.proofs.Common.{◌-◌, arith}
+use Rattle.std.proofs.Common.{arith}
 use Rattle.prefix_width.proofs.PrefixLemmas.{last_fits}
 use Rattle.prefix_width.proofs.prefix.Prefix.last.Goals as goal
 
