@@ -1,8 +1,15 @@
+pub mod BeforeLemmas
 pub mod BlockLemmas
+pub mod CentralLaw
 pub mod CoverLemmas
 pub mod EditLemmas
+pub mod IndexLemmas
 pub mod KeyLemmas
 pub mod MatchLemmas
+pub mod NeighbourLemmas
 pub mod PageLemmas
+pub mod StartLemmas
+pub mod SweepLemmas
 pub mod UnderLemmas
 pub mod UndoLemmas
+pub mod UpLemmas

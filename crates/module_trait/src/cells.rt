@@ -1,6 +1,7 @@
-ghost use Rattle.std.specs.Prelude.{◌≡◌, ◌+◌, ◌<◌, Some, length, slice_get, IfOk};
+ghost use Rattle.std.specs.Prelude.{◌≡◌, IfOk};
 
 use crate::OutOfMemory;
+use crate::cell_reads::CellReads;
 use crate::steps::Steps;
 use std::alloc::Global;
 use std::marker::Model;
@@ -27,20 +28,18 @@ impl<T> Cells<T> {
     {
         Cells { cells }
     }
+}
 
-    /// How many cells there are.
-    pub fn len(&self) -> usize
-        ensures { result ≡ length self.now }
-    {
+impl<T> CellReads for Cells<T> {
+    type Cell = T;
+
+    ghost cells = { λ row. row };
+
+    fn len(&self) -> usize {
         self.cells.len()
     }
 
-    /// The cell at a place, in one step.
-    pub fn at<L: Ledger>(&self, i: usize, steps: &mut Steps<L>) -> &T
-        requires { i < length self.now }
-        ensures value { slice_get self.now i ≡ Some result.now }
-        ensures cost { steps.new ≡ steps.old + 1 }
-    {
+    fn at<L: Ledger>(&self, i: usize, steps: &mut Steps<L>) -> &T {
         steps.tick();
         &self.cells[i]
     }

@@ -1,4 +1,4 @@
-ghost use Rattle.std.specs.Prelude.{◌≡◌, ◌≢◌, ℕ, ◌+◌, ◌≤◌, List, [], IfOk, OnOk};
+ghost use Rattle.std.specs.Prelude.{◌≡◌, ◌≢◌, ℕ, ◌+◌, ◌≤◌, List, [], IfOk, OnOk, OnErr};
 ghost use Rattle.prefix_width.specs.Prefix.{Block};
 ghost use Rattle.prefix_width.specs.Longest.{longest};
 ghost use Rattle.module_trait.specs.Rows.{AreRows, index_of};
@@ -35,10 +35,11 @@ pub trait Module<const W: u32>: Drop {
     fn empty(alloc: Global) -> Result<Self, OutOfMemory>
         ensures { IfOk result (λ table. stands table []) };
 
-    /// Takes these rows in place of those that it has.
+    /// Takes these rows in place of those that it has. On an error it is as before.
     fn load(&mut self, alloc: Global, rows: &[(Prefix<W>, u16)]) -> Result<(), OutOfMemory>
         requires { AreRows rows.now }
-        ensures { OnOk result (stands self.new rows.now) };
+        ensures ok { OnOk result (stands self.new rows.now) }
+        ensures err { OnErr result (self.new ≡ self.old) };
 
     /// As [`Module::lookup`], with the address by reference.
     fn find<L: Ledger>(&self, addr: &Addr<W>, steps: &mut Steps<L>) -> Option<u16>

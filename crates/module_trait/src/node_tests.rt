@@ -19,7 +19,7 @@ fn copies_keep<L: Ledger>(
     alloc: Global,
     steps: &mut Steps<L>,
 ) -> Result<(), Fail> {
-    let mut nodes = Nodes::new(alloc);
+    let mut nodes = Nodes::<u32, 64>::new(alloc);
     nodes.reserve(1)?;
     let key = nodes.put(10);
     nodes.settle(alloc)?;
@@ -31,7 +31,7 @@ fn copies_keep<L: Ledger>(
 }
 
 fn thaws<L: Ledger>(rt: &impl Abort, alloc: Global, steps: &mut Steps<L>) -> Result<(), Fail> {
-    let mut nodes = Nodes::new(alloc);
+    let mut nodes = Nodes::<u32, 64>::new(alloc);
     nodes.reserve(1)?;
     let key = nodes.put(10);
     let copy = nodes.copy(alloc)?.copy(alloc)?;

@@ -1,91 +1,99 @@
-ghost use Rattle.std.specs.Prelude.{◌≡◌, ℕ, ◌+◌, ◌<◌, ◌≤◌, [], Some, None, IsSome, IfOk, OnOk};
-ghost use Rattle.module_trait.specs.Nodes.{node_at, frozen_at, contents, Updates, IsExact, IsKept};
+ghost use Rattle.std.specs.Prelude.{◌≡◌, ℕ, ◌+◌, ◌<◌, ◌≤◌, [], Some, None, IsSome, IfOk, OnOk, length, max};
+ghost use Rattle.module_trait.specs.Nodes.{node_at, frozen_at, contents, marked, Updates, IsExact, IsKept};
 
 use crate::OutOfMemory;
 use crate::frozen::FrozenNodes;
 use crate::node_reads::NodeReads;
-use crate::pages::{PAGE, Page, extend, mark, pages_of, renew};
+use crate::pages::{Handle, cover, mark, pages_of, renew};
 use crate::steps::Steps;
 use slab::Slab;
 use std::alloc::Global;
 use std::marker::Model;
-use std::sync::Arc;
 use std::sync::ledger::Ledger;
 
-/// Every key is below this, so that 32 bits hold it and one number of 32 bits is no key.
-pub const KEYS_MAX: usize = 4_294_967_295;
+/// Every key is below this, so that 32 bits hold it and 65,536 numbers of 32 bits are no key.
+pub const KEYS_MAX: usize = 4_294_901_760;
 
-/// A store of nodes under keys that it picks. Beside the nodes stand the pages of the last
-/// snapshot, which copies share, and a mark for each page that a write has touched since.
+/// A store of nodes under keys that it picks, `PAGE` of which share a page. Beside the nodes stand
+/// the pages of the last snapshot, which copies share, and a mark for each page that a write has
+/// touched since. A copy raises one count for each page and makes those anew that were written to,
+/// so fewer and longer pages cost a small table more and a large one less.
 #[derive(Drop)]
-pub struct Nodes<T> {
+pub struct Nodes<T, const PAGE: usize> {
     slab: Slab<T>,
-    pages: Vec<Arc<Page<T>>>,
-    // One for each page. A key whose page is not there yet needs no mark.
+    pages: Vec<Handle<T>>,
+    // One for each page.
     marks: Vec<bool>,
-    // No key past it is in use.
-    last: usize,
+    // How many more nodes were made room for.
+    spare: usize,
 }
 
-impl<T> Model for Nodes<T> {
+impl<T, const PAGE: usize> Model for Nodes<T, PAGE> {
+    ghost use Rattle.std.specs.Prelude.{◌*◌, length};
     ghost use Rattle.slab.specs.Slab.{slab_len};
-    ghost use Rattle.module_trait.specs.Nodes.{Store, store_code, IsKept, contents, room_in};
-    ghost use Rattle.module_trait.specs.declared.pages.TheConstants.{PAGE};
+    ghost use Rattle.module_trait.specs.Nodes.{Store, store_code, HasRoom, IsKept, contents, marked};
 
     ghost Value = { Store T };
 
     ghost coded = { store_code T.code };
 
-    ghost view = { λ n. record { slots = n.slab.slots; spare = room_in n.slab.capacity (slab_len n.slab) } };
+    ghost view = { λ n. record { slots = n.slab.slots; spare = n.spare; unsettled = marked n.marks.items } };
 
-    ghost invariant = { λ n. IsKept PAGE n.slab.slots (contents n.pages.items) n.marks.items n.last };
+    ghost invariant = { λ n. IsKept PAGE n.slab.slots (contents n.pages.items) n.marks.items × HasRoom n.spare n.slab.capacity (slab_len n.slab) (length n.pages.items * PAGE) };
 }
 
-impl<T> Nodes<T> {
+impl<T, const PAGE: usize> Nodes<T, PAGE> {
     /// The nodes of a slab, beside pages that are kept.
-    pub(crate) fn of(
-        slab: Slab<T>,
-        pages: Vec<Arc<Page<T>>>,
-        marks: Vec<bool>,
-        last: usize,
-    ) -> Nodes<T>
-        requires { IsKept PAGE slab.slots (contents pages.items) marks.items last }
-        ensures { result.slots ≡ slab.slots }
+    pub(crate) fn of(slab: Slab<T>, pages: Vec<Handle<T>>, marks: Vec<bool>) -> Nodes<T, PAGE>
+        requires { IsKept PAGE slab.slots (contents pages.items) marks.items }
+        ensures slots { result.slots ≡ slab.slots }
+        ensures spare { result.spare ≡ 0 }
+        ensures unsettled { result.unsettled ≡ marked marks.items }
     {
         Nodes {
             slab,
             pages,
             marks,
-            last,
+            spare: 0,
         }
     }
 }
 
-impl<T: Drop> Nodes<T> {
+impl<T: Drop, const PAGE: usize> Nodes<T, PAGE> {
     /// No node at all, and no room.
-    pub fn new(alloc: Global) -> Nodes<T>
+    pub fn new(alloc: Global) -> Nodes<T, PAGE>
+        requires { 0 < PAGE }
         ensures slots { result.slots ≡ [] }
         ensures spare { result.spare ≡ 0 }
+        ensures unsettled { result.unsettled ≡ 0 }
     {
         Nodes {
             slab: Slab::new(alloc),
             pages: Vec::new(alloc),
             marks: Vec::new(alloc),
-            last: 0,
+            spare: 0,
         }
     }
 
-    /// Makes room for `n` more nodes. There is none past [`KEYS_MAX`], which is told as want of
-    /// memory.
+    /// Makes room for `n` more nodes, where there is less. There is none past [`KEYS_MAX`], which
+    /// is told as want of memory.
     pub fn reserve(&mut self, n: usize) -> Result<(), OutOfMemory>
-        ensures room { OnOk result (n ≤ self.new.spare) }
+        ensures spare { OnOk result (self.new.spare ≡ max self.old.spare n) }
         ensures slots { self.new.slots ≡ self.old.slots }
-        ensures spare { OnOk result (self.old.spare ≤ self.new.spare) }
+        ensures unsettled { self.new.unsettled ≡ self.old.unsettled }
+        ensures most { self.new.spare ≤ max self.old.spare n }
     {
+        if n <= self.spare {
+            return Ok(());
+        }
+        // What there was is not known any more where the slab grows and the pages do not.
+        self.spare = 0;
         self.slab.reserve(n)?;
         if self.slab.capacity() > KEYS_MAX {
             return Err(OutOfMemory);
         }
+        cover::<T, PAGE>(&self.slab, &mut self.pages, &mut self.marks)?;
+        self.spare = n;
         Ok(())
     }
 
@@ -96,10 +104,11 @@ impl<T: Drop> Nodes<T> {
         ensures bound { result < KEYS_MAX }
         ensures updates { Updates self.old.slots self.new.slots result (Some node) }
         ensures spare { self.new.spare + 1 ≡ self.old.spare }
+        ensures unsettled { self.new.unsettled ≤ self.old.unsettled + 1 }
     {
         let key = self.slab.insert_reserved(node);
-        mark(&mut self.marks, key);
-        self.last = self.last.max(key);
+        mark::<PAGE>(&mut self.marks, key);
+        self.spare -= 1;
         key
     }
 
@@ -108,9 +117,10 @@ impl<T: Drop> Nodes<T> {
         requires { IsSome (node_at self.old.slots key) }
         ensures updates { Updates self.old.slots self.new.slots key (Some node) }
         ensures spare { self.new.spare ≡ self.old.spare }
+        ensures unsettled { self.new.unsettled ≤ self.old.unsettled + 1 }
     {
         self.slab[key] = node;
-        mark(&mut self.marks, key);
+        mark::<PAGE>(&mut self.marks, key);
     }
 
     /// Takes the node at a key out. It takes no memory.
@@ -118,15 +128,16 @@ impl<T: Drop> Nodes<T> {
         requires { IsSome (node_at self.old.slots key) }
         ensures value { node_at self.old.slots key ≡ Some result }
         ensures updates { Updates self.old.slots self.new.slots key None }
-        ensures spare { self.old.spare ≤ self.new.spare }
+        ensures spare { self.new.spare ≡ self.old.spare }
+        ensures unsettled { self.new.unsettled ≤ self.old.unsettled + 1 }
     {
         let node = self.slab.remove(key);
-        mark(&mut self.marks, key);
+        mark::<PAGE>(&mut self.marks, key);
         node
     }
 }
 
-impl<T> NodeReads for Nodes<T> {
+impl<T, const PAGE: usize> NodeReads for Nodes<T, PAGE> {
     type Node = T;
 
     ghost node = { λ nodes. node_at nodes.slots };
@@ -137,35 +148,26 @@ impl<T> NodeReads for Nodes<T> {
     }
 }
 
-impl<T: Clone + Drop> Nodes<T> {
+impl<T: Clone + Drop, const PAGE: usize> Nodes<T, PAGE> {
     /// Makes the pages that were written to anew, so that copies share all of them.
     pub fn settle(&mut self, alloc: Global) -> Result<(), OutOfMemory>
         requires { IsExact T.is_clone }
-        ensures { self.new ≡ self.old }
+        ensures slots { self.new.slots ≡ self.old.slots }
+        ensures spare { self.new.spare ≡ self.old.spare }
+        ensures none { OnOk result (self.new.unsettled ≡ 0) }
+        ensures fewer { self.new.unsettled ≤ self.old.unsettled }
     {
-        renew(
-            alloc,
-            &self.slab,
-            &mut self.pages,
-            &mut self.marks,
-            self.last,
-        )?;
-        extend(
-            alloc,
-            &self.slab,
-            &mut self.pages,
-            &mut self.marks,
-            self.last,
-        )
+        renew::<T, PAGE>(alloc, &self.slab, &mut self.pages, &mut self.marks)
     }
 
     /// A frozen copy: the same nodes at the same keys. It shares each page that was not written to
     /// since [`Nodes::settle`], and makes the others for this copy alone.
-    pub fn copy(&self, alloc: Global) -> Result<FrozenNodes<T>, OutOfMemory>
+    pub fn copy(&self, alloc: Global) -> Result<FrozenNodes<T, PAGE>, OutOfMemory>
         requires { IsExact T.is_clone }
-        ensures { IfOk result (λ frozen. (key : ℕ) → frozen_at frozen key ≡ node_at self.now.slots key) }
+        ensures same { IfOk result (λ frozen. (key : ℕ) → frozen_at PAGE frozen key ≡ node_at self.now.slots key) }
+        ensures made { IfOk result (λ frozen. frozen.made ≤ self.now.unsettled) }
     {
-        let pages = pages_of(alloc, &self.slab, &self.pages, &self.marks, self.last)?;
-        Ok(FrozenNodes::of(pages))
+        let (pages, made) = pages_of::<T, PAGE>(alloc, &self.slab, &self.pages, &self.marks)?;
+        Ok(FrozenNodes::of(pages, made))
     }
 }

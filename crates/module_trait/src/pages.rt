@@ -1,39 +1,63 @@
-ghost use Rattle.std.specs.Prelude.{◌≡◌, ℕ, ◌+◌, ◌*◌, ◌/◌, ◌^◌, ◌<◌, ◌≤◌, None, length, OnOk, IfOk, option_copied, slice_set, true};
-ghost use Rattle.module_trait.specs.Nodes.{node_at, paged_at, contents, cells_of, IsExact, IsKept, IsPageOf, AreUnmarked, SameNodes};
+ghost use Rattle.std.specs.Prelude.{◌≡◌, ℕ, ◌+◌, ◌*◌, ◌/◌, ◌^◌, ◌<◌, ◌≤◌, None, length, OnOk, OnErr, IfOk, option_copied, slice_index_or, slice_set, true, false};
+ghost use Rattle.module_trait.specs.Nodes.{node_at, paged_at, contents, cells_of, marked, IsExact, IsKept, IsPageOf, AreUnmarked, SameNodes};
 
 use crate::OutOfMemory;
 use slab::Slab;
 use std::alloc::Global;
 use std::sync::Arc;
 
-/// How many keys share a page. A copy raises one count for each page and makes those anew that were
-/// written to, so fewer and longer pages cost a small table more and a large one less.
-pub(crate) const PAGE: usize = 2_048;
-
-/// What the keys of a page have. The last page ends with the last key in use.
+/// What the keys of a page have. It ends with the last of them that is in use.
 pub(crate) type Page<T> = Vec<Option<T>>;
 
+/// A page that copies may share. Where none of its keys is in use there may be none.
+pub(crate) type Handle<T> = Option<Arc<Page<T>>>;
+
 /// The node at a key, if there is one.
-pub(crate) fn paged<T>(pages: &Vec<Arc<Page<T>>>, key: usize) -> Option<&T>
+pub(crate) fn paged<T, const PAGE: usize>(pages: &Vec<Handle<T>>, key: usize) -> Option<&T>
+    requires { 0 < PAGE }
     ensures { option_copied result ≡ paged_at PAGE (contents pages.now.items) key }
 {
     match pages.get(key / PAGE) {
-        Some(page) => match page.get(key % PAGE) {
+        Some(Some(page)) => match page.get(key % PAGE) {
             Some(Some(node)) => Some(node),
             _ => None,
         },
-        None => None,
+        _ => None,
     }
 }
 
 /// Marks the page of this key, if there is one.
-pub(crate) fn mark(marks: &mut Vec<bool>, key: usize)
+pub(crate) fn mark<const PAGE: usize>(marks: &mut Vec<bool>, key: usize)
+    requires { 0 < PAGE }
     ensures { marks.new.items ≡ slice_set marks.old.items (key / PAGE) true }
 {
     let page = key / PAGE;
     if page < marks.len() {
         marks[page] = true;
     }
+}
+
+/// Room for the page of each key that the slab may give: pages without a node, and not marked.
+pub(crate) fn cover<T: Drop, const PAGE: usize>(
+    slab: &Slab<T>,
+    pages: &mut Vec<Handle<T>>,
+    marks: &mut Vec<bool>,
+) -> Result<(), OutOfMemory>
+    requires { IsKept PAGE slab.now.slots (contents pages.old.items) marks.old.items }
+    ensures kept { IsKept PAGE slab.now.slots (contents pages.new.items) marks.new.items }
+    ensures whole { OnOk result (slab.now.capacity ≤ length (contents pages.new.items) * PAGE) }
+    ensures marked { marked marks.new.items ≡ marked marks.old.items }
+{
+    let last = slab.capacity() / PAGE;
+    if last >= usize::MAX / PAGE {
+        return Err(OutOfMemory);
+    }
+    for page in pages.len()..last + 1 {
+        marks.reserve(1)?;
+        pages.push(None)?;
+        marks.push_reserved(false);
+    }
+    Ok(())
 }
 
 // What a key has.
@@ -47,31 +71,51 @@ fn slot_at<T: Clone + Drop>(slab: &Slab<T>, key: usize) -> Result<Option<T>, Out
     }
 }
 
-// How many slots of the page's keys there are up to the last key in use.
-fn slots_in(page: usize, last: usize) -> usize
-    requires { page ≤ last / PAGE }
+// How many slots of a page there are up to the last of its keys that is in use.
+fn slots_in<T: Drop, const PAGE: usize>(slab: &Slab<T>, base: usize) -> usize
+    requires { base + PAGE ≤ 2 ^ 64 }
     ensures most { result ≤ PAGE }
-    ensures fits { page * PAGE + result ≤ 2 ^ 64 }
-    ensures all { result < PAGE → last < page * PAGE + result }
+    ensures rest { (i : ℕ) → result ≤ i → i < PAGE → node_at slab.now.slots (base + i) ≡ None }
 {
-    let past = last - page * PAGE;
-    if past < PAGE { past + 1 } else { PAGE }
+    for i in (0..PAGE).rev() {
+        if slab.contains(base + i) {
+            return i + 1;
+        }
+    }
+    0
 }
 
-// A page of the slots of its keys, up to the last key in use.
-fn page_at<T: Clone + Drop>(
+// A page of the slots of its keys, up to the last one in use.
+fn page_at<T: Clone + Drop, const PAGE: usize>(
     alloc: Global,
     slab: &Slab<T>,
     page: usize,
-    last: usize,
-) -> Result<Vec<Option<T>>, OutOfMemory>
+) -> Result<Handle<T>, OutOfMemory>
     requires exact { IsExact T.is_clone }
-    requires within { page ≤ last / PAGE }
-    requires above { (key : ℕ) → last < key → node_at slab.now.slots key ≡ None }
-    ensures { IfOk result (λ cells. IsPageOf PAGE slab.now.slots page cells.items) }
+    requires fits { (page + 1) * PAGE ≤ 2 ^ 64 }
+    ensures { IfOk result (λ made. IsPageOf PAGE slab.now.slots page (cells_of made)) }
 {
     let base = page * PAGE;
-    let count = slots_in(page, last);
+    let count = slots_in::<T, PAGE>(slab, base);
+    if count == 0 {
+        return Ok(None);
+    }
+    let cells = slots_at(alloc, slab, base, count)?;
+    Ok(Some(Arc::new(alloc, cells)?))
+}
+
+// The slots of so many keys.
+fn slots_at<T: Clone + Drop>(
+    alloc: Global,
+    slab: &Slab<T>,
+    base: usize,
+    count: usize,
+) -> Result<Vec<Option<T>>, OutOfMemory>
+    requires exact { IsExact T.is_clone }
+    requires fits { base + count ≤ 2 ^ 64 }
+    ensures len { IfOk result (λ cells. length cells.items ≡ count) }
+    ensures cells { IfOk result (λ cells. (i : ℕ) → i < count → slice_index_or cells.items i None ≡ node_at slab.now.slots (base + i)) }
+{
     let mut cells = Vec::with_capacity(alloc, count)?;
     for i in 0..count {
         cells.push(slot_at(slab, base + i)?)?;
@@ -80,100 +124,94 @@ fn page_at<T: Clone + Drop>(
 }
 
 /// Makes each marked page anew, and takes its mark away.
-pub(crate) fn renew<T: Clone + Drop>(
+pub(crate) fn renew<T: Clone + Drop, const PAGE: usize>(
     alloc: Global,
     slab: &Slab<T>,
-    pages: &mut Vec<Arc<Page<T>>>,
+    pages: &mut Vec<Handle<T>>,
     marks: &mut Vec<bool>,
-    last: usize,
 ) -> Result<(), OutOfMemory>
     requires exact { IsExact T.is_clone }
-    requires kept { IsKept PAGE slab.now.slots (contents pages.old.items) marks.old.items last }
-    ensures kept { IsKept PAGE slab.now.slots (contents pages.new.items) marks.new.items last }
-    ensures unmarked { OnOk result (AreUnmarked marks.new.items (length marks.new.items)) }
+    requires kept { IsKept PAGE slab.now.slots (contents pages.old.items) marks.old.items }
+    ensures kept { IsKept PAGE slab.now.slots (contents pages.new.items) marks.new.items }
+    ensures len { length pages.new.items ≡ length pages.old.items }
+    ensures none { OnOk result (marked marks.new.items ≡ 0) }
+    ensures fewer { marked marks.new.items ≤ marked marks.old.items }
 {
     for page in 0..marks.len() {
         if marks[page] {
-            pages[page] = Arc::new(alloc, page_at(alloc, slab, page, last)?)?;
-            marks[page] = false;
+            renew_page::<T, PAGE>(alloc, slab, pages, marks, page)?;
         }
     }
     Ok(())
 }
 
-/// Makes pages until each key has one.
-pub(crate) fn extend<T: Clone + Drop>(
+// Makes a page anew, and takes its mark away.
+fn renew_page<T: Clone + Drop, const PAGE: usize>(
     alloc: Global,
     slab: &Slab<T>,
-    pages: &mut Vec<Arc<Page<T>>>,
+    pages: &mut Vec<Handle<T>>,
     marks: &mut Vec<bool>,
-    last: usize,
+    page: usize,
 ) -> Result<(), OutOfMemory>
     requires exact { IsExact T.is_clone }
-    requires kept { IsKept PAGE slab.now.slots (contents pages.old.items) marks.old.items last }
-    requires unmarked { AreUnmarked marks.old.items (length marks.old.items) }
-    ensures kept { IsKept PAGE slab.now.slots (contents pages.new.items) marks.new.items last }
-    ensures unmarked { AreUnmarked marks.new.items (length marks.new.items) }
-    ensures whole { OnOk result (last / PAGE < length (contents pages.new.items)) }
+    requires kept { IsKept PAGE slab.now.slots (contents pages.old.items) marks.old.items }
+    requires within { page < length marks.old.items }
+    ensures kept { IsKept PAGE slab.now.slots (contents pages.new.items) marks.new.items }
+    ensures len { length pages.new.items ≡ length pages.old.items }
+    ensures ok { OnOk result (marks.new.items ≡ slice_set marks.old.items page false) }
+    ensures err { OnErr result (marks.new.items ≡ marks.old.items) }
 {
-    for page in pages.len()..last / PAGE + 1 {
-        marks.reserve(1)?;
-        pages.push(Arc::new(alloc, page_at(alloc, slab, page, last)?)?)?;
-        marks.push_reserved(false);
-    }
+    let made = page_at::<T, PAGE>(alloc, slab, page)?;
+    pages[page] = made;
+    marks[page] = false;
     Ok(())
 }
 
-// The page of these keys, shared where it is not marked.
-fn page_of<T: Clone + Drop>(
+/// Pages of all keys in use, shared where they are not marked. Beside them, how many were made.
+pub(crate) fn pages_of<T: Clone + Drop, const PAGE: usize>(
     alloc: Global,
     slab: &Slab<T>,
-    pages: &Vec<Arc<Page<T>>>,
+    pages: &Vec<Handle<T>>,
     marks: &Vec<bool>,
-    last: usize,
-    page: usize,
-) -> Result<Arc<Page<T>>, OutOfMemory>
+) -> Result<(Vec<Handle<T>>, usize), OutOfMemory>
     requires exact { IsExact T.is_clone }
-    requires kept { IsKept PAGE slab.now.slots (contents pages.now.items) marks.now.items last }
-    requires within { page ≤ last / PAGE }
-    ensures { IfOk result (λ shared. IsPageOf PAGE slab.now.slots page (cells_of shared)) }
+    requires kept { IsKept PAGE slab.now.slots (contents pages.now.items) marks.now.items }
+    ensures same { IfOk result (λ shared. SameNodes PAGE (contents shared.0.items) slab.now.slots) }
+    ensures made { IfOk result (λ shared. shared.1 ≡ marked marks.now.items) }
 {
-    if page < marks.len() && !marks[page] {
-        return Ok(Arc::try_clone(&pages[page])?);
+    let mut shared = Vec::with_capacity(alloc, pages.len())?;
+    let mut made = 0;
+    for page in 0..pages.len() {
+        if marks[page] {
+            shared.push(page_at::<T, PAGE>(alloc, slab, page)?)?;
+            made += 1;
+        } else {
+            shared.push(owner_of(&pages[page])?)?;
+        }
     }
-    Ok(Arc::new(alloc, page_at(alloc, slab, page, last)?)?)
+    Ok((shared, made))
 }
 
-/// Pages of all keys in use, shared where they are not marked.
-pub(crate) fn pages_of<T: Clone + Drop>(
-    alloc: Global,
-    slab: &Slab<T>,
-    pages: &Vec<Arc<Page<T>>>,
-    marks: &Vec<bool>,
-    last: usize,
-) -> Result<Vec<Arc<Page<T>>>, OutOfMemory>
-    requires exact { IsExact T.is_clone }
-    requires kept { IsKept PAGE slab.now.slots (contents pages.now.items) marks.now.items last }
-    ensures { IfOk result (λ shared. SameNodes PAGE (contents shared.items) slab.now.slots) }
+// One more owner of a page.
+fn owner_of<T: Drop>(page: &Handle<T>) -> Result<Handle<T>, OutOfMemory>
+    ensures { IfOk result (λ owner. cells_of owner ≡ cells_of page.now) }
 {
-    let count = last / PAGE + 1;
-    let mut shared = Vec::with_capacity(alloc, count)?;
-    for page in 0..count {
-        shared.push(page_of(alloc, slab, pages, marks, last, page)?)?;
+    match page {
+        Some(page) => Ok(Some(Arc::try_clone(page)?)),
+        None => Ok(None),
     }
-    Ok(shared)
 }
 
 /// One more owner of each page.
 pub(crate) fn share<T: Drop>(
     alloc: Global,
-    pages: &Vec<Arc<Page<T>>>,
-) -> Result<Vec<Arc<Page<T>>>, OutOfMemory>
+    pages: &Vec<Handle<T>>,
+) -> Result<Vec<Handle<T>>, OutOfMemory>
     ensures { IfOk result (λ shared. contents shared.items ≡ contents pages.now.items) }
 {
     let mut shared = Vec::with_capacity(alloc, pages.len())?;
     for page in pages {
-        shared.push(Arc::try_clone(page)?)?;
+        shared.push(owner_of(page)?)?;
     }
     Ok(shared)
 }

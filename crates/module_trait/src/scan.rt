@@ -2,6 +2,7 @@ ghost use Rattle.std.specs.Prelude.{◌≡◌, length};
 ghost use Rattle.prefix_width.specs.Longest.{longer, only_if_in};
 
 use crate::OutOfMemory;
+use crate::cell_reads::CellReads;
 use crate::cells::Cells;
 use crate::edit::{Edit, Verdict};
 use crate::module::Module;
@@ -51,6 +52,8 @@ impl<const W: u32> ScanTable<W> {
 
 impl<const W: u32> Module<W> for ScanTable<W> {
     ghost use Rattle.module_trait.specs.declared.edit.Verdict.TheVariants.{Done};
+    ghost use Rattle.prefix_width.specs.Choice.{preference as preferred};
+    ghost use Rattle.prefix_width.specs.declared.module.Kind.TheVariants.{Scan};
 
     ghost stands = { λ table rows. table.rows ≡ rows };
 
@@ -60,7 +63,7 @@ impl<const W: u32> Module<W> for ScanTable<W> {
 
     ghost is_batch_verdict = { λ _ _ _ verdict. verdict ≡ Done };
 
-    ghost preference = { λ _. 50 };
+    ghost preference = { λ routes. preferred W routes Scan };
 
     fn empty(alloc: Global) -> Result<Self, OutOfMemory> {
         Ok(ScanTable {

@@ -1,5 +1,5 @@
 -- A table after edits, and its copies.
-use Rattle.std.proofs.Common.{◌≡◌, ℕ, ◌+◌, ◌-◌, ◌*◌, ◌<◌, List, [], ◌∷◌, length, drop, get_or, Option, All, sym, ap, ◌∙◌, arith, subst, drop-cons, add-one}
+use Rattle.std.proofs.Common.{◌≡◌, ℕ, ◌+◌, ◌-◌, ◌*◌, ◌<◌, ◌≤◌, List, [], ◌∷◌, length, drop, get_or, Option, All, sym, ap, ◌∙◌, arith, subst, drop-cons, add-one}
 use Rattle.std.proofs.Math.Path.{fun_ext}
 use Rattle.std.proofs.lemmas.List.Elements.{All-cons, All-nil, All-weaker}
 use Rattle.prefix_width.specs.Prefix.{Block}
@@ -9,7 +9,7 @@ use Rattle.module_trait.specs.Edit.{IndexChange, AreOfDistinct, HaveAfter, IsEdi
 use Rattle.radix_lockless.specs.declared.node.Node.{Node}
 use Rattle.radix_lockless.specs.declared.trie.Trie.{Trie}
 use Rattle.radix_lockless.specs.Trie.{DifferAtMost, StandsFor}
-use Rattle.radix_lockless.specs.Spot.{IsChange}
+use Rattle.radix_lockless.specs.Spot.{IsChange, IsLittle}
 use Rattle.radix_lockless.specs.Table.{IsEdited, IsRadixOf, IsSameAs, IsSound, Linked, nodes_of, with_edits, working}
 use Rattle.radix_lockless.proofs.EditLemmas.{blocks_from, indexes_edited, redone}
 use Rattle.radix_lockless.proofs.PlanLemmas.{differ_more, differ_weaker, nodes_at}
@@ -37,6 +37,7 @@ module _ {W : ℕ} where
       record {
         rows = λ rows stands. edited.rows rows (stands_alike old copy same rows stands);
         few = (edited.few.0, edited.few.1, λ k h. edited.few.2 k h ∙ same.nodes k);
+        pages = omega (arith, edited.pages, same.settled);
       }
 
   pub sound_edited : (old new : Linked W) (edits : List IndexChange) → IsEdited old new edits → IsSound old → IsSound new
@@ -46,12 +47,14 @@ module _ {W : ℕ} where
   pub record IsEditedFrom (old new : Trie W) (edits : List IndexChange) (i : ℕ) : Type 0 where
     pub rows : (rows : List (Block × ℕ)) → StandsFor (nodes_at old) old.root rows → StandsFor (nodes_at new) new.root (with_edits (drop i edits) rows)
     pub few : DifferAtMost (3 * (length edits - i)) (nodes_at old) (nodes_at new)
+    pub pages : new.nodes.unsettled ≤ old.nodes.unsettled + 3 * (length edits - i)
 
-  pub edited_more : (old mid new : Trie W) (edits : List IndexChange) (i : ℕ) (e : IndexChange) → i < length edits → e ≡ get_or edits i e → IsEditedFrom old mid edits (i + 1) → IsChange mid new e.prefix e.after → IsEditedFrom old new edits i
-  edited_more old mid new edits i e inside is so_far change =
+  pub edited_more : (old mid new : Trie W) (edits : List IndexChange) (i : ℕ) (e : IndexChange) → i < length edits → e ≡ get_or edits i e → IsEditedFrom old mid edits (i + 1) → IsChange mid new e.prefix e.after → IsLittle mid new → IsEditedFrom old new edits i
+  edited_more old mid new edits i e inside is so_far change little =
       record {
         rows = λ rows stands. subst (λ (xs : List (Block × ℕ)). StandsFor (nodes_at new) new.root xs) (sym (edits_from edits i e rows inside is)) (change.rows (with_edits (drop (i + 1) edits) rows) (so_far.rows rows stands));
         few = differ_weaker (3 * (length edits - (i + 1)) + 3) (3 * (length edits - i)) (nodes_at old) (nodes_at new) (omega arith) (differ_more (3 * (length edits - (i + 1))) 3 (nodes_at old) (nodes_at mid) (nodes_at new) so_far.few change.few);
+        pages = omega (arith, so_far.pages, little.pages);
       }
 
   pub edited_all : (old new : Trie W) (edits : List IndexChange) → IsEditedFrom old new edits 0 → IsEdited (working old) (working new) edits
@@ -59,6 +62,7 @@ module _ {W : ℕ} where
       record {
         rows = so_far.rows;
         few = differ_weaker (3 * (length edits - 0)) (3 * length edits) (nodes_at old) (nodes_at new) (omega arith) so_far.few;
+        pages = omega (arith, so_far.pages);
       }
 
   -- a table that stood for the view's rows with edits undone stands for the view's with them made

@@ -6,5 +6,10 @@ use Rattle.radix_lockless.specs.declared.table.Form.TheVariants.{Working, Frozen
 use Rattle.radix_lockless.specs.Table.{Linked}
 
 abbrev pub linked_of : {W : ℕ} → Form W → Linked W
-linked_of (Working trie) = record { nodes = inl trie.nodes.slots; root = trie.root }
-linked_of (Frozen trie) = record { nodes = inr trie.nodes; root = trie.root }
+linked_of (Working trie) = record { nodes = inl trie.nodes.slots; root = trie.root; unsettled = trie.nodes.unsettled; made = 0 }
+linked_of (Frozen trie) = record { nodes = inr trie.nodes.pages; root = trie.root; unsettled = 0; made = trie.nodes.made }
+
+-- how many more nodes there is room for
+abbrev pub spare_of : {W : ℕ} → Form W → ℕ
+spare_of (Working trie) = trie.nodes.spare
+spare_of (Frozen trie) = 0

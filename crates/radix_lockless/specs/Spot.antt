@@ -74,3 +74,8 @@ module _ {W : ℕ} where
     pub rows : (rows : List (Block × ℕ)) → StandsFor (node_at old.nodes.slots) old.root rows → StandsFor (node_at new.nodes.slots) new.root (with_row rows q index)
     pub few : DifferAtMost 3 (node_at old.nodes.slots) (node_at new.nodes.slots)
     pub spare : old.nodes.spare ≤ new.nodes.spare + 2
+
+  -- no more room was made, and at most three pages were written to
+  pub record IsLittle (old new : Trie W) : Type 0 where
+    pub room : new.nodes.spare ≤ old.nodes.spare
+    pub pages : new.nodes.unsettled ≤ old.nodes.unsettled + 3

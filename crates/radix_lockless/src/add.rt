@@ -1,7 +1,7 @@
 ghost use Rattle.std.specs.Prelude.{◌≡◌, ◌≢◌, ◌<◌, ◌≤◌, Some, None, true};
 ghost use Rattle.prefix_width.specs.Prefix.{IsBlock, IsCommonLen, contains};
 ghost use Rattle.module_trait.specs.Nodes.{node_at};
-ghost use Rattle.radix_lockless.specs.Spot.{IsChange, IsSpot};
+ghost use Rattle.radix_lockless.specs.Spot.{IsChange, IsLittle, IsSpot};
 
 use crate::node::Node;
 use crate::trie::{Entry, Spot, Trie, parted, relink, set_index};
@@ -12,7 +12,8 @@ pub(crate) fn add<const W: u32>(trie: &mut Trie<W>, spot: &Spot<W>, prefix: &Pre
     requires spot { IsSpot (node_at trie.old.nodes.slots) trie.old.root prefix.now spot.now }
     requires block { IsBlock W prefix.now }
     requires room { 2 ≤ trie.old.nodes.spare }
-    ensures { IsChange trie.old trie.new prefix.now (Some index) }
+    ensures change { IsChange trie.old trie.new prefix.now (Some index) }
+    ensures little { IsLittle trie.old trie.new }
 {
     match &spot.here {
         None => add_leaf(trie, spot, prefix, index),
@@ -37,7 +38,8 @@ fn add_leaf<const W: u32>(trie: &mut Trie<W>, spot: &Spot<W>, prefix: &Prefix<W>
     requires none { spot.now.here ≡ None }
     requires block { IsBlock W prefix.now }
     requires room { 2 ≤ trie.old.nodes.spare }
-    ensures { IsChange trie.old trie.new prefix.now (Some index) }
+    ensures change { IsChange trie.old trie.new prefix.now (Some index) }
+    ensures little { IsLittle trie.old trie.new }
 {
     let key = trie.nodes.put(&Node {
         prefix: *prefix,
@@ -62,7 +64,8 @@ fn add_over<const W: u32>(
     requires covering { contains W prefix.now entry.now.node.prefix.base ≡ true }
     requires block { IsBlock W prefix.now }
     requires room { 2 ≤ trie.old.nodes.spare }
-    ensures { IsChange trie.old trie.new prefix.now (Some index) }
+    ensures change { IsChange trie.old trie.new prefix.now (Some index) }
+    ensures little { IsLittle trie.old trie.new }
 {
     let _longest = entry.node.prefix.len();
     let right = entry.node.prefix.addr().bit(prefix.len());
@@ -88,7 +91,8 @@ fn add_beside<const W: u32>(
     requires second { len < prefix.now.len }
     requires block { IsBlock W prefix.now }
     requires room { 2 ≤ trie.old.nodes.spare }
-    ensures { IsChange trie.old trie.new prefix.now (Some index) }
+    ensures change { IsChange trie.old trie.new prefix.now (Some index) }
+    ensures little { IsLittle trie.old trie.new }
 {
     let shared = match Prefix::masked(prefix.addr(), len) {
         Some(shared) => shared,

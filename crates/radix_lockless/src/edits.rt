@@ -1,17 +1,16 @@
-ghost use Rattle.std.specs.Prelude.{◌≡◌, ℕ, ◌*◌, ◌≤◌, List, [], length, OnOk, OnErr};
+ghost use Rattle.std.specs.Prelude.{◌≡◌, ℕ, ◌*◌, ◌≤◌, List, [], length, max, OnOk, OnErr};
 ghost use Rattle.prefix_width.specs.Prefix.{Block};
 ghost use Rattle.module_trait.specs.Nodes.{node_at};
 ghost use Rattle.module_trait.specs.Rows.{IsAscending};
 ghost use Rattle.radix_lockless.specs.Trie.{StandsFor};
-ghost use Rattle.radix_lockless.specs.Spot.{IsChange};
+ghost use Rattle.radix_lockless.specs.Spot.{IsChange, IsLittle};
 ghost use Rattle.radix_lockless.specs.Table.{IsEdited, IsSound, working};
 
 use crate::OutOfMemory;
 use crate::add::add;
-use crate::apart::{Counting, run_apart};
 use crate::remove::remove;
 use crate::trie::{Trie, spot_of};
-use module_trait::{Edit, Steps};
+use module_trait::{Counting, Edit, Steps, run_apart};
 use prefix_width::Prefix;
 use std::alloc::Global;
 use std::mem;
@@ -26,7 +25,8 @@ pub(crate) fn set_row<const W: u32, L: Ledger>(
 )
     requires sound { IsSound (working trie.old) }
     requires room { 2 ≤ trie.old.nodes.spare }
-    ensures { IsChange trie.old trie.new prefix.now index }
+    ensures change { IsChange trie.old trie.new prefix.now index }
+    ensures little { IsLittle trie.old trie.new }
 {
     let _len = prefix.len();
     let spot = spot_of(&trie.nodes, trie.root, prefix, steps);
@@ -49,7 +49,7 @@ impl<'a, const W: u32> Counting for Editing<'a, W> {
 
     ghost ready = { λ work. IsSound (working work.trie) × (2 * length work.edits.now ≤ work.trie.nodes.spare) };
 
-    ghost leaves = { λ old new. IsEdited (working old.trie) (working new.trie) old.edits.now };
+    ghost leaves = { λ old new. IsEdited (working old.trie) (working new.trie) old.edits.now × (new.trie.nodes.spare ≤ old.trie.nodes.spare) };
 
     fn run<L: Ledger>(&mut self, steps: &mut Steps<L>) {
         for i in (0..self.edits.len()).rev() {
@@ -68,6 +68,7 @@ pub(crate) fn apply<const W: u32>(
     requires { IsSound (working trie.old) }
     ensures ok { OnOk result (IsEdited (working trie.old) (working trie.new) edits.now) }
     ensures err { OnErr result (working trie.new ≡ working trie.old) }
+    ensures room { trie.new.nodes.spare ≤ max trie.old.nodes.spare (2 * length edits.now) }
 {
     let room = match edits.len().checked_mul(2) {
         Some(room) => room,

@@ -4,10 +4,9 @@ ghost use Rattle.module_trait.specs.Rows.{IsAscending};
 ghost use Rattle.radix_lockless.specs.Trie.{StandsFor};
 
 use crate::OutOfMemory;
-use crate::apart::{Counting, run_apart};
 use crate::edits::set_row;
 use crate::trie::Trie;
-use module_trait::Steps;
+use module_trait::{Counting, Steps, run_apart};
 use prefix_width::Prefix;
 use std::alloc::Global;
 use std::sync::ledger::Ledger;

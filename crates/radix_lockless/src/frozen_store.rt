@@ -9,7 +9,7 @@ use crate::OutOfMemory;
 use crate::find::longest_in;
 use crate::key::Key;
 use crate::packed::Packed;
-use crate::store::NodeStore;
+use crate::store::{NodeStore, PAGE};
 use crate::word::Halves;
 use module_trait::{FrozenNodes, Steps};
 use prefix_width::Addr;
@@ -20,16 +20,16 @@ use std::sync::ledger::Ledger;
 /// A copy of the nodes of a trie, which is only read. One of the two is empty.
 #[derive(Drop)]
 pub(crate) struct FrozenStore<const W: u32> {
-    narrow: FrozenNodes<Packed<W, u32>>,
-    wide: FrozenNodes<Packed<W, Halves>>,
+    narrow: FrozenNodes<Packed<W, u32>, PAGE>,
+    wide: FrozenNodes<Packed<W, Halves>, PAGE>,
 }
 
 impl<const W: u32> Model for FrozenStore<W> {
-    ghost use Rattle.std.specs.Prelude.{List, Option};
+    ghost use Rattle.module_trait.specs.Nodes.{Frozen};
     ghost use Rattle.radix_lockless.specs.declared.node.Node.{Node};
     ghost use Rattle.radix_lockless.specs.Store.{by_width};
 
-    ghost Value = { List (List (Option (Node W))) };
+    ghost Value = { Frozen (Node W) };
 
     ghost view = { λ s. by_width W s.narrow s.wide };
 }
@@ -42,8 +42,8 @@ impl<const W: u32> FrozenStore<W> {
         addr: &Addr<W>,
         steps: &mut Steps<L>,
     ) -> Option<u16>
-        requires { (rows : List (Block × ℕ)) × StandsFor (frozen_at self.now) root rows }
-        ensures answer { (rows : List (Block × ℕ)) → StandsFor (frozen_at self.now) root rows → result ≡ index_of (longest W rows addr.now) }
+        requires { (rows : List (Block × ℕ)) × StandsFor (frozen_at PAGE self.now) root rows }
+        ensures answer { (rows : List (Block × ℕ)) → StandsFor (frozen_at PAGE self.now) root rows → result ≡ index_of (longest W rows addr.now) }
         ensures cost { steps.new ≤ steps.old + (W + 1) }
     {
         if W <= 32 {
@@ -55,7 +55,8 @@ impl<const W: u32> FrozenStore<W> {
 
     /// The same nodes at the same keys. All pages are shared.
     pub(crate) fn copy(&self, alloc: Global) -> Result<FrozenStore<W>, OutOfMemory>
-        ensures { IfOk result (λ copy. copy ≡ self.now) }
+        ensures pages { IfOk result (λ copy. copy.pages ≡ self.now.pages) }
+        ensures made { IfOk result (λ copy. copy.made ≡ 0) }
     {
         if W <= 32 {
             let narrow = self.narrow.copy(alloc)?;
@@ -68,7 +69,9 @@ impl<const W: u32> FrozenStore<W> {
 
     /// A store with the same nodes at the same keys, which may be written to.
     pub(crate) fn thaw(&self, alloc: Global) -> Result<NodeStore<W>, OutOfMemory>
-        ensures { IfOk result (λ nodes. (key : ℕ) → node_at nodes.slots key ≡ frozen_at self.now key) }
+        ensures same { IfOk result (λ nodes. (key : ℕ) → node_at nodes.slots key ≡ frozen_at PAGE self.now key) }
+        ensures spare { IfOk result (λ nodes. nodes.spare ≡ 0) }
+        ensures unsettled { IfOk result (λ nodes. nodes.unsettled ≡ 0) }
     {
         if W <= 32 {
             let narrow = self.narrow.thaw(alloc)?;
@@ -80,7 +83,7 @@ impl<const W: u32> FrozenStore<W> {
     }
 
     /// A copy of narrow nodes.
-    pub(crate) fn narrow(alloc: Global, narrow: FrozenNodes<Packed<W, u32>>) -> FrozenStore<W>
+    pub(crate) fn narrow(alloc: Global, narrow: FrozenNodes<Packed<W, u32>, PAGE>) -> FrozenStore<W>
         requires { W ≤ 32 }
         ensures { result ≡ narrow.entry }
     {
@@ -91,7 +94,7 @@ impl<const W: u32> FrozenStore<W> {
     }
 
     /// A copy of wide nodes.
-    pub(crate) fn wide(alloc: Global, wide: FrozenNodes<Packed<W, Halves>>) -> FrozenStore<W>
+    pub(crate) fn wide(alloc: Global, wide: FrozenNodes<Packed<W, Halves>, PAGE>) -> FrozenStore<W>
         requires { 32 < W }
         ensures { result ≡ wide.entry }
     {

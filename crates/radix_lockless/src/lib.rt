@@ -4,7 +4,6 @@
 #![tactic(auto)]
 
 mod add;
-mod apart;
 mod edits;
 mod fill;
 mod find;

@@ -2,7 +2,7 @@ ghost use Rattle.std.specs.Prelude.{◌≡◌, ◌⊎◌, ◌≤◌, Some, None,
 ghost use Rattle.std.specs.Option.{option_or};
 ghost use Rattle.prefix_width.specs.Prefix.{IsBlock};
 ghost use Rattle.module_trait.specs.Nodes.{node_at};
-ghost use Rattle.radix_lockless.specs.Spot.{IsChange, IsFreeAbove, IsSpot};
+ghost use Rattle.radix_lockless.specs.Spot.{IsChange, IsFreeAbove, IsLittle, IsSpot};
 
 use crate::key::Key;
 use crate::trie::{Entry, Link, Spot, Trie, relink, set_index, sibling};
@@ -13,7 +13,8 @@ use prefix_width::Prefix;
 pub(crate) fn remove<const W: u32>(trie: &mut Trie<W>, spot: &Spot<W>, prefix: &Prefix<W>)
     requires spot { IsSpot (node_at trie.old.nodes.slots) trie.old.root prefix.now spot.now }
     requires block { IsBlock W prefix.now }
-    ensures { IsChange trie.old trie.new prefix.now None }
+    ensures change { IsChange trie.old trie.new prefix.now None }
+    ensures little { IsLittle trie.old trie.new }
 {
     match &spot.here {
         None => {}
@@ -30,7 +31,8 @@ pub(crate) fn remove<const W: u32>(trie: &mut Trie<W>, spot: &Spot<W>, prefix: &
 fn remove_entry<const W: u32>(trie: &mut Trie<W>, spot: &Spot<W>, entry: &Entry<W>)
     requires spot { IsSpot (node_at trie.old.nodes.slots) trie.old.root entry.now.node.prefix spot.now }
     requires here { spot.now.here ≡ Some entry.now }
-    ensures { IsChange trie.old trie.new entry.now.node.prefix None }
+    ensures change { IsChange trie.old trie.new entry.now.node.prefix None }
+    ensures little { IsLittle trie.old trie.new }
 {
     match entry.node.left {
         None => match entry.node.right {
@@ -50,7 +52,8 @@ fn remove_leaf<const W: u32>(trie: &mut Trie<W>, spot: &Spot<W>, entry: &Entry<W
     requires here { spot.now.here ≡ Some entry.now }
     requires no_left { entry.now.node.left ≡ None }
     requires no_right { entry.now.node.right ≡ None }
-    ensures { IsChange trie.old trie.new entry.now.node.prefix None }
+    ensures change { IsChange trie.old trie.new entry.now.node.prefix None }
+    ensures little { IsLittle trie.old trie.new }
 {
     match &spot.parent {
         None => splice(trie, spot, entry, None),
@@ -71,7 +74,8 @@ fn splice<const W: u32>(trie: &mut Trie<W>, spot: &Spot<W>, entry: &Entry<W>, ch
     requires child { child ≡ option_or entry.now.node.left entry.now.node.right }
     requires lone { (entry.now.node.left ≡ None) ⊎ (entry.now.node.right ≡ None) }
     requires free { IsSome child ⊎ IsFreeAbove spot.now.parent }
-    ensures { IsChange trie.old trie.new entry.now.node.prefix None }
+    ensures change { IsChange trie.old trie.new entry.now.node.prefix None }
+    ensures little { IsLittle trie.old trie.new }
 {
     trie.nodes.take(entry.key);
     relink(trie, &spot.parent, child);
@@ -85,7 +89,8 @@ fn prune<const W: u32>(trie: &mut Trie<W>, spot: &Spot<W>, entry: &Entry<W>, lin
     requires bare { link.now.node.index ≡ None }
     requires no_left { entry.now.node.left ≡ None }
     requires no_right { entry.now.node.right ≡ None }
-    ensures { IsChange trie.old trie.new entry.now.node.prefix None }
+    ensures change { IsChange trie.old trie.new entry.now.node.prefix None }
+    ensures little { IsLittle trie.old trie.new }
 {
     trie.nodes.take(entry.key);
     trie.nodes.take(link.key);

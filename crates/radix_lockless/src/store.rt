@@ -1,4 +1,4 @@
-ghost use Rattle.std.specs.Prelude.{◌≡◌, ℕ, ◌+◌, ◌<◌, ◌≤◌, List, [], Some, None, IsSome, IfOk, OnOk};
+ghost use Rattle.std.specs.Prelude.{◌≡◌, ℕ, ◌+◌, ◌<◌, ◌≤◌, List, [], Some, None, IsSome, IfOk, OnOk, max};
 ghost use Rattle.prefix_width.specs.Prefix.{Block};
 ghost use Rattle.prefix_width.specs.Longest.{longest};
 ghost use Rattle.module_trait.specs.Nodes.{Updates, node_at, frozen_at};
@@ -19,12 +19,15 @@ use std::alloc::Global;
 use std::marker::Model;
 use std::sync::ledger::Ledger;
 
+/// How many keys share a page.
+pub(crate) const PAGE: usize = 2_048;
+
 /// The nodes of a trie, which may be written to. They are kept as narrow as their addresses allow,
 /// so one of the two is empty.
 #[derive(Drop)]
 pub(crate) struct NodeStore<const W: u32> {
-    narrow: Nodes<Packed<W, u32>>,
-    wide: Nodes<Packed<W, Halves>>,
+    narrow: Nodes<Packed<W, u32>, PAGE>,
+    wide: Nodes<Packed<W, Halves>, PAGE>,
 }
 
 impl<const W: u32> Model for NodeStore<W> {
@@ -42,6 +45,7 @@ impl<const W: u32> NodeStore<W> {
     pub(crate) fn new(alloc: Global) -> NodeStore<W>
         ensures slots { result.slots ≡ [] }
         ensures spare { result.spare ≡ 0 }
+        ensures unsettled { result.unsettled ≡ 0 }
     {
         NodeStore {
             narrow: Nodes::new(alloc),
@@ -62,9 +66,10 @@ impl<const W: u32> NodeStore<W> {
 
     /// Makes room for `n` more nodes.
     pub(crate) fn reserve(&mut self, n: usize) -> Result<(), OutOfMemory>
-        ensures room { OnOk result (n ≤ self.new.spare) }
+        ensures spare { OnOk result (self.new.spare ≡ max self.old.spare n) }
         ensures slots { self.new.slots ≡ self.old.slots }
-        ensures spare { OnOk result (self.old.spare ≤ self.new.spare) }
+        ensures unsettled { self.new.unsettled ≡ self.old.unsettled }
+        ensures most { self.new.spare ≤ max self.old.spare n }
     {
         if W <= 32 {
             self.narrow.reserve(n)
@@ -79,6 +84,7 @@ impl<const W: u32> NodeStore<W> {
         ensures vacant { node_at self.old.slots result ≡ None }
         ensures updates { Updates self.old.slots self.new.slots result (Some node.now) }
         ensures spare { self.new.spare + 1 ≡ self.old.spare }
+        ensures unsettled { self.new.unsettled ≤ self.old.unsettled + 1 }
     {
         // Its length tells that W is at most 128, which the wide form wants.
         let _len = node.prefix.len();
@@ -95,6 +101,7 @@ impl<const W: u32> NodeStore<W> {
         requires { IsSome (node_at self.old.slots key) }
         ensures updates { Updates self.old.slots self.new.slots key (Some node.now) }
         ensures spare { self.new.spare ≡ self.old.spare }
+        ensures unsettled { self.new.unsettled ≤ self.old.unsettled + 1 }
     {
         // As in `put`.
         let _len = node.prefix.len();
@@ -109,7 +116,8 @@ impl<const W: u32> NodeStore<W> {
     pub(crate) fn take(&mut self, key: Key)
         requires { IsSome (node_at self.old.slots key) }
         ensures updates { Updates self.old.slots self.new.slots key None }
-        ensures spare { self.old.spare ≤ self.new.spare }
+        ensures spare { self.new.spare ≡ self.old.spare }
+        ensures unsettled { self.new.unsettled ≤ self.old.unsettled + 1 }
     {
         if W <= 32 {
             self.narrow.take(key.number());
@@ -151,7 +159,8 @@ impl<const W: u32> NodeStore<W> {
 
     /// Makes the pages that were written to anew, so that copies share all of them.
     pub(crate) fn settle(&mut self, alloc: Global) -> Result<(), OutOfMemory>
-        ensures { self.new ≡ self.old }
+        ensures slots { self.new.slots ≡ self.old.slots }
+        ensures none { OnOk result (self.new.unsettled ≡ 0) }
     {
         if W <= 32 {
             self.narrow.settle(alloc)
@@ -162,7 +171,8 @@ impl<const W: u32> NodeStore<W> {
 
     /// A frozen copy: the same nodes at the same keys.
     pub(crate) fn copy(&self, alloc: Global) -> Result<FrozenStore<W>, OutOfMemory>
-        ensures { IfOk result (λ frozen. (key : ℕ) → frozen_at frozen key ≡ node_at self.now.slots key) }
+        ensures same { IfOk result (λ frozen. (key : ℕ) → frozen_at PAGE frozen key ≡ node_at self.now.slots key) }
+        ensures made { IfOk result (λ frozen. frozen.made ≤ self.now.unsettled) }
     {
         if W <= 32 {
             let narrow = self.narrow.copy(alloc)?;
@@ -174,7 +184,7 @@ impl<const W: u32> NodeStore<W> {
     }
 
     /// A store of narrow nodes.
-    pub(crate) fn narrow(alloc: Global, narrow: Nodes<Packed<W, u32>>) -> NodeStore<W>
+    pub(crate) fn narrow(alloc: Global, narrow: Nodes<Packed<W, u32>, PAGE>) -> NodeStore<W>
         requires { W ≤ 32 }
         ensures { result ≡ narrow.entry }
     {
@@ -185,7 +195,7 @@ impl<const W: u32> NodeStore<W> {
     }
 
     /// A store of wide nodes.
-    pub(crate) fn wide(alloc: Global, wide: Nodes<Packed<W, Halves>>) -> NodeStore<W>
+    pub(crate) fn wide(alloc: Global, wide: Nodes<Packed<W, Halves>, PAGE>) -> NodeStore<W>
         requires { 32 < W }
         ensures { result ≡ wide.entry }
     {

@@ -1,8 +1,8 @@
-ghost use Rattle.std.specs.Prelude.{◌≡◌, ◌≢◌, ℕ, ◌+◌, ◌*◌, nat_lt, List, length, Ok, IfOk, OnOk, OnErr, if◌then◌else◌};
+ghost use Rattle.std.specs.Prelude.{◌≡◌, ◌≢◌, ℕ, ◌+◌, ◌*◌, ◌≤◌, List, length, max, Ok, IfOk, OnOk, OnErr};
 ghost use Rattle.prefix_width.specs.Prefix.{Block};
 ghost use Rattle.module_trait.specs.Edit.{undone, undone_all, AreOfDistinct, HaveAfter};
 ghost use Rattle.module_trait.specs.View.{row_at};
-ghost use Rattle.radix_lockless.specs.Form.{linked_of};
+ghost use Rattle.radix_lockless.specs.Form.{linked_of, spare_of};
 ghost use Rattle.radix_lockless.specs.Store.{by_width};
 ghost use Rattle.radix_lockless.specs.Table.{IsEdited, IsRadixOf, IsSameAs, IsSound, nodes_of};
 ghost use Rattle.radix_lockless.specs.Trie.{DifferAtMost};
@@ -14,7 +14,7 @@ use crate::frozen_store::FrozenStore;
 use crate::key::Key;
 use crate::store::NodeStore;
 use crate::trie::Trie;
-use module_trait::{Edit, Module, RouteView, Steps, Verdict, read_edits};
+use module_trait::{Boxed, Edit, Module, RouteView, Steps, Verdict, read_edits};
 use prefix_width::{Addr, Prefix};
 use std::alloc::Global;
 use std::marker::Model;
@@ -27,7 +27,7 @@ use std::sync::ledger::Ledger;
 #[derive(Drop)]
 pub struct RadixTable<const W: u32> {
     // Behind a pointer, so that a table is as small as one.
-    form: Box<Form<W>>,
+    form: Boxed<Form<W>>,
 }
 
 /// The nodes of a table: written to, or a copy that is only read.
@@ -59,14 +59,15 @@ impl<const W: u32> Model for RadixTable<W> {
 
     ghost Value = { Linked W };
 
-    ghost view = { λ t. linked_of t.form.value };
+    ghost view = { λ t. linked_of t.form };
 
-    ghost invariant = { λ t. IsSound (linked_of t.form.value) };
+    ghost invariant = { λ t. IsSound (linked_of t.form) };
 }
 
 /// The same nodes at the same keys, to be written to.
 fn thawed<const W: u32>(frozen: &FrozenTrie<W>, alloc: Global) -> Result<Trie<W>, OutOfMemory>
-    ensures { IfOk result (λ trie. IsSameAs (linked_of (Form.Frozen frozen.now)) (linked_of (Form.Working trie))) }
+    ensures same { IfOk result (λ trie. IsSameAs (linked_of (Form.Frozen frozen.now)) (linked_of (Form.Working trie))) }
+    ensures spare { IfOk result (λ trie. trie.nodes.spare ≡ 0) }
 {
     Ok(Trie {
         nodes: frozen.nodes.thaw(alloc)?,
@@ -76,7 +77,8 @@ fn thawed<const W: u32>(frozen: &FrozenTrie<W>, alloc: Global) -> Result<Trie<W>
 
 /// The same nodes at the same keys, to be read alone.
 fn frozen<const W: u32>(form: &Form<W>, alloc: Global) -> Result<Form<W>, OutOfMemory>
-    ensures { IfOk result (λ copy. IsSameAs (linked_of form.now) (linked_of copy)) }
+    ensures same { IfOk result (λ copy. IsSameAs (linked_of form.now) (linked_of copy)) }
+    ensures made { IfOk result (λ copy. (linked_of copy).made ≤ (linked_of form.now).unsettled) }
 {
     let (nodes, root) = match form {
         Form::Working(trie) => (trie.nodes.copy(alloc)?, trie.root),
@@ -86,7 +88,7 @@ fn frozen<const W: u32>(form: &Form<W>, alloc: Global) -> Result<Form<W>, OutOfM
 }
 
 /// Makes edits, in nodes that may be written to.
-fn make_edits<const W: u32>(
+fn edit_form<const W: u32>(
     alloc: Global,
     form: &mut Form<W>,
     edits: &[Edit<W>],
@@ -94,6 +96,7 @@ fn make_edits<const W: u32>(
     requires { IsSound (linked_of form.old) }
     ensures ok { OnOk result (IsEdited (linked_of form.old) (linked_of form.new) edits.now) }
     ensures err { OnErr result (linked_of form.new ≡ linked_of form.old) }
+    ensures room { spare_of form.new ≤ max (spare_of form.old) (2 * length edits.now) }
 {
     match form {
         Form::Working(trie) => apply(alloc, trie, edits),
@@ -106,8 +109,38 @@ fn make_edits<const W: u32>(
     }
 }
 
+/// Makes edits behind the pointer.
+fn make_edits<const W: u32>(
+    alloc: Global,
+    form: &mut Boxed<Form<W>>,
+    edits: &[Edit<W>],
+) -> Result<(), OutOfMemory>
+    requires { IsSound (linked_of form.old) }
+    ensures ok { OnOk result (IsEdited (linked_of form.old) (linked_of form.new) edits.now) }
+    ensures err { OnErr result (linked_of form.new ≡ linked_of form.old) }
+    ensures room { spare_of form.new ≤ max (spare_of form.old) (2 * length edits.now) }
+{
+    let mut work = form.replace(Form::Working(Trie::new(alloc)));
+    let outcome = edit_form(alloc, &mut work, edits);
+    form.replace(work);
+    outcome
+}
+
+/// Makes the pages that were written to anew.
+fn settle_form<const W: u32>(alloc: Global, form: &mut Form<W>) -> Result<(), OutOfMemory>
+    ensures same { linked_of form.new ≡ record (linked_of form.old) { unsettled = (linked_of form.new).unsettled } }
+    ensures settled { OnOk result ((linked_of form.new).unsettled ≡ 0) }
+{
+    match form {
+        Form::Working(trie) => trie.nodes.settle(alloc),
+        Form::Frozen(_) => Ok(()),
+    }
+}
+
 impl<const W: u32> Module<W> for RadixTable<W> {
     ghost use Rattle.module_trait.specs.declared.edit.Verdict.TheVariants.{Done};
+    ghost use Rattle.prefix_width.specs.Choice.{preference as preferred};
+    ghost use Rattle.prefix_width.specs.declared.module.Kind.TheVariants.{Radix};
 
     ghost stands = { λ table rows. IsRadixOf rows table };
 
@@ -117,23 +150,23 @@ impl<const W: u32> Module<W> for RadixTable<W> {
 
     ghost is_batch_verdict = { λ _ _ _ verdict. verdict ≡ Done };
 
-    ghost preference = { λ routes. if nat_lt routes 100000 then 200 else 100 };
+    ghost preference = { λ routes. preferred W routes Radix };
 
     fn empty(alloc: Global) -> Result<Self, OutOfMemory> {
         let form = Form::Working(Trie::new(alloc));
         Ok(RadixTable {
-            form: Box::new(alloc, form)?,
+            form: Boxed::new(alloc, form)?,
         })
     }
 
     fn load(&mut self, alloc: Global, rows: &[(Prefix<W>, u16)]) -> Result<(), OutOfMemory> {
         let trie = filled(alloc, rows)?;
-        *self.form = Form::Working(trie);
+        self.form.replace(Form::Working(trie));
         Ok(())
     }
 
     fn find<L: Ledger>(&self, addr: &Addr<W>, steps: &mut Steps<L>) -> Option<u16> {
-        match &*self.form {
+        match self.form.get() {
             Form::Working(trie) => trie.nodes.longest(trie.root, addr, steps),
             Form::Frozen(trie) => trie.nodes.longest(trie.root, addr, steps),
         }
@@ -157,10 +190,13 @@ impl<const W: u32> Module<W> for RadixTable<W> {
 
         // All nodes but at most three are as before.
         ensures few { result ≡ Ok Verdict.Done → DifferAtMost 3 (nodes_of self.old) (nodes_of self.new) }
+
+        // At most three pages are to be settled that were not.
+        ensures pages { result ≡ Ok Verdict.Done → self.new.unsettled ≤ self.old.unsettled + 3 }
     {
         let _after = edit.after();
         let _len = view.len();
-        make_edits(alloc, &mut *self.form, [*edit].as_slice())?;
+        make_edits(alloc, &mut self.form, [*edit].as_slice())?;
         Ok(Verdict::Done)
     }
 
@@ -180,21 +216,27 @@ impl<const W: u32> Module<W> for RadixTable<W> {
 
         // All nodes but at most three an edit are as before.
         ensures few { result ≡ Ok Verdict.Done → DifferAtMost (3 * length edits.now) (nodes_of self.old) (nodes_of self.new) }
+
+        // At most three pages an edit are to be settled that were not.
+        ensures pages { result ≡ Ok Verdict.Done → self.new.unsettled ≤ self.old.unsettled + 3 * length edits.now }
     {
         read_edits(edits);
         let _len = view.len();
-        make_edits(alloc, &mut *self.form, edits)?;
+        make_edits(alloc, &mut self.form, edits)?;
         Ok(Verdict::Done)
     }
 
     fn settle(&mut self, alloc: Global) -> Result<(), OutOfMemory>
         ensures stands { (rows : List (Block × ℕ)) → IsRadixOf rows self.old → IsRadixOf rows self.new }
-        ensures same { self.new ≡ self.old }
+
+        // No page is left that was written to, and all else is as before.
+        ensures same { self.new ≡ record self.old { unsettled = self.new.unsettled } }
+        ensures settled { OnOk result (self.new.unsettled ≡ 0) }
     {
-        match &mut *self.form {
-            Form::Working(trie) => trie.nodes.settle(alloc),
-            Form::Frozen(_) => Ok(()),
-        }
+        let mut work = self.form.replace(Form::Working(Trie::new(alloc)));
+        let outcome = settle_form(alloc, &mut work);
+        self.form.replace(work);
+        outcome
     }
 
     fn copy(&self, alloc: Global) -> Result<Self, OutOfMemory>
@@ -202,10 +244,13 @@ impl<const W: u32> Module<W> for RadixTable<W> {
 
         // The same node at each key.
         ensures same { IfOk result (λ copy. (key : ℕ) → nodes_of copy key ≡ nodes_of self.now key) }
+
+        // It shares each page but those that were written to since the table was settled.
+        ensures made { IfOk result (λ copy. copy.made ≤ self.now.unsettled) }
     {
-        let form = frozen(&*self.form, alloc)?;
+        let form = frozen(self.form.get(), alloc)?;
         Ok(RadixTable {
-            form: Box::new(alloc, form)?,
+            form: Boxed::new(alloc, form)?,
         })
     }
 

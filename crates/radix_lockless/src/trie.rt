@@ -1,8 +1,8 @@
-ghost use Rattle.std.specs.Prelude.{◌≡◌, ◌⊎◌, ℕ, List, [], Some, IfSome, IsSome};
+ghost use Rattle.std.specs.Prelude.{◌≡◌, ◌⊎◌, ℕ, ◌+◌, ◌≤◌, List, [], Some, IfSome, IsSome};
 ghost use Rattle.prefix_width.specs.Prefix.{Block, IsBlock};
 ghost use Rattle.module_trait.specs.Nodes.{node_at};
 ghost use Rattle.radix_lockless.specs.Trie.{StandsFor};
-ghost use Rattle.radix_lockless.specs.Spot.{IsChange, IsSpot, IsLinkSet, linked, leads_to, parted, sibling};
+ghost use Rattle.radix_lockless.specs.Spot.{IsChange, IsLittle, IsSpot, IsLinkSet, linked, leads_to, parted, sibling};
 
 use crate::key::Key;
 use crate::node::Node;
@@ -24,7 +24,8 @@ impl<const W: u32> Trie<W> {
 
     /// No node at all.
     pub(crate) fn new(alloc: Global) -> Trie<W>
-        ensures { StandsFor (node_at result.nodes.slots) result.root [] }
+        ensures stands { StandsFor (node_at result.nodes.slots) result.root [] }
+        ensures spare { result.nodes.spare ≡ 0 }
     {
         Trie {
             nodes: NodeStore::new(alloc),
@@ -159,6 +160,7 @@ pub(crate) fn relink<const W: u32>(trie: &mut Trie<W>, above: &Option<Link<W>>, 
     requires { IfSome above.now (λ link. IsSome (node_at trie.old.nodes.slots link.key)) }
     ensures link { IsLinkSet trie.old trie.new above.now at }
     ensures spare { trie.new.nodes.spare ≡ trie.old.nodes.spare }
+    ensures pages { trie.new.nodes.unsettled ≤ trie.old.nodes.unsettled + 1 }
 {
     match above {
         None => trie.root = at,
@@ -176,7 +178,8 @@ pub(crate) fn set_index<const W: u32>(
     requires spot { IsSpot (node_at trie.old.nodes.slots) trie.old.root entry.now.node.prefix spot.now }
     requires here { spot.now.here ≡ Some entry.now }
     requires justified { IsSome index ⊎ (IsSome entry.now.node.left × IsSome entry.now.node.right) }
-    ensures { IsChange trie.old trie.new entry.now.node.prefix index }
+    ensures change { IsChange trie.old trie.new entry.now.node.prefix index }
+    ensures little { IsLittle trie.old trie.new }
 {
     let node = Node {
         index,

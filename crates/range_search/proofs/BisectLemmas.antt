@@ -9,11 +9,11 @@ use Rattle.prefix_width.specs.Prefix.{Block}
 use Rattle.prefix_width.specs.Longest.{longest}
 use Rattle.module_trait.specs.Rows.{index_of}
 use Rattle.range_search.specs.Range.{IsRangeOf}
-use Rattle.row_cells.specs.Starts.{index_at, starts_of, IsUp}
-use Rattle.row_cells.proofs.IndexLemmas.{index_longest, zero_is_none, one_is_some}
-use Rattle.row_cells.proofs.NeighbourLemmas.{all_above, cell_answers}
-use Rattle.row_cells.proofs.StartLemmas.{in-starts, up-starts}
-use Rattle.row_cells.proofs.UpLemmas.{IsIn, in-all}
+use Rattle.module_trait.specs.Starts.{index_at, starts_of, IsUp, IsIn}
+use Rattle.module_trait.proofs.IndexLemmas.{index_longest, zero_is_none, one_is_some}
+use Rattle.module_trait.proofs.NeighbourLemmas.{all_above, cell_answers}
+use Rattle.module_trait.proofs.StartLemmas.{in-starts, up-starts}
+use Rattle.module_trait.proofs.UpLemmas.{in-all}
 
 -- half of what was left
 pub narrower : (k size less n : ℕ) → 2 * less ≤ size → 2 ^ k * size ≤ n → 2 ^ (k + 1) * less ≤ n

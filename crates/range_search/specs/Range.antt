@@ -5,7 +5,7 @@ use Rattle.prefix_width.specs.Prefix.{Block}
 use Rattle.module_trait.specs.Rows.{AreBlocks, HaveIndexes}
 use Rattle.module_trait.specs.declared.edit.Verdict.{Verdict}
 use Rattle.module_trait.specs.declared.edit.Verdict.TheVariants.{Done, Batch, Rebuild}
-use Rattle.row_cells.specs.Starts.{AreRight, starts_of}
+use Rattle.module_trait.specs.Starts.{AreRight, starts_of}
 
 -- the cells stand for the rows
 pub record IsRangeOf (w : ℕ) (rows : List (Block × ℕ)) (cells : List (ℕ × ℕ)) : Type 0 where

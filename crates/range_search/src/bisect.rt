@@ -2,7 +2,7 @@ ghost use Rattle.std.specs.Prelude.{◌≡◌, ℕ, ◌+◌, ◌-◌, ◌^◌, �
 ghost use Rattle.range_search.specs.Bisect.{IsLast};
 
 use crate::start::Start;
-use module_trait::{Cells, Steps};
+use module_trait::{CellReads, Cells, Steps};
 use std::sync::ledger::Ledger;
 
 /// The index of the last of ascending cells that begins at or before an address, in as many steps

@@ -2,7 +2,7 @@ ghost use Rattle.std.specs.Prelude.{◌≡◌, ℕ, ◌+◌, ◌^◌, ◌<◌, �
 ghost use Rattle.range_search.specs.Bisect.{IsLast};
 
 use crate::{OutOfMemory, bisect};
-use module_trait::{Cells, Steps};
+use module_trait::{CellReads, Cells, Steps};
 use std::alloc::Global;
 use std::marker::Model;
 use std::sync::ledger::Ledger;

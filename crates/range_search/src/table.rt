@@ -1,15 +1,14 @@
-ghost use Rattle.std.specs.Prelude.{◌≡◌, ◌≢◌, ◌-◌, ◌/◌, max, length, Ok, OnOk};
+ghost use Rattle.std.specs.Prelude.{◌≡◌, ◌≢◌, length, Ok, OnOk};
 ghost use Rattle.std.specs.Map.{keys_of};
 ghost use Rattle.module_trait.specs.Rows.{AreBlocks, IsAscending};
-ghost use Rattle.row_cells.specs.Starts.{AreRight, starts_of};
+ghost use Rattle.module_trait.specs.Starts.{AreRight, starts_of};
 ghost use Rattle.range_search.specs.Range.{IsRangeOf, IsDigits, IsRangeVerdict};
 
 use crate::OutOfMemory;
 use crate::compare::same_starts;
 use crate::start_cells::StartCells;
-use module_trait::{Edit, Module, RouteView, Steps, Verdict, read_edits};
+use module_trait::{Edit, Module, RouteView, Steps, Verdict, cells_of, read_edits};
 use prefix_width::{Addr, Prefix};
-use row_cells::cells_of;
 use std::alloc::Global;
 use std::sync::ledger::Ledger;
 
@@ -46,6 +45,9 @@ impl<const W: u32> RangeTable<W> {
 }
 
 impl<const W: u32> Module<W> for RangeTable<W> {
+    ghost use Rattle.prefix_width.specs.Choice.{preference as preferred};
+    ghost use Rattle.prefix_width.specs.declared.module.Kind.TheVariants.{Range};
+
     ghost stands = { λ table rows. IsRangeOf W rows table.cells };
 
     ghost is_bound = { λ rows n. IsDigits n (length (starts_of W rows)) };
@@ -54,7 +56,7 @@ impl<const W: u32> Module<W> for RangeTable<W> {
 
     ghost is_batch_verdict = { λ _ before after verdict. IsRangeVerdict W before after verdict };
 
-    ghost preference = { λ routes. max (253 - routes / 4) 1 };
+    ghost preference = { λ routes. preferred W routes Range };
 
     fn empty(alloc: Global) -> Result<Self, OutOfMemory> {
         let cells = Vec::from_slice(alloc, &[(0, 0)])?;
@@ -109,6 +111,6 @@ impl<const W: u32> Module<W> for RangeTable<W> {
     }
 
     fn pref(routes: u32) -> u8 {
-        253u32.saturating_sub(routes / 4).max(1) as u8
+        1u32.max(253u32.saturating_sub(routes / 4)) as u8
     }
 }

@@ -1,6 +1,5 @@
 use Rattle.module_trait.specs.Nodes.{contents, IsFilled}
-use Rattle.module_trait.specs.declared.pages.TheConstants.{PAGE}
 use Rattle.module_trait.proofs.frozen.clear.Given as goal
 
 abbrev pub invariant-loop-key : goal.invariant-loop-key
-invariant-loop-key g l = IsFilled PAGE (contents l.pages.items) l.slab.slots l.key l.count
+invariant-loop-key g l = IsFilled g.row.PAGE (contents l.pages.items) l.slab.slots l.key l.count

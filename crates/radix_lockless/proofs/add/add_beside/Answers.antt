@@ -20,8 +20,8 @@ relink-requires g c =
     let updates = subst (λ (x : Node w). Updates first.nodes.slots mid.nodes.slots c.put-key.result (Some x)) node c.put-key.ensures.updates in
     (lit< tt, (lit< tt, plan_there old mid _ _ _ _ (beside_plan old first mid q c.args.index n c.args.spot.now c.args.entry.now c.put-leaf.result c.put-key.result c.bit-right.result c.requires.spot c.requires.here c.requires.block c.requires.common c.requires.first c.requires.second bit c.put-leaf.ensures.vacant c.put-leaf.ensures.updates c.put-key.ensures.vacant updates refl)))
 
-pub returns : goal.returns
-returns g c =
+pub returns-clause-change : goal.returns-clause-change
+returns-clause-change g c =
     let old = c.args.trie.now in
     let first = record old { nodes = c.put-leaf.new.self } in
     let mid = record old { nodes = c.put-key.new.self } in

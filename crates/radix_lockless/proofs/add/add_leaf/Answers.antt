@@ -8,8 +8,8 @@ relink-requires g c =
     let mid = record old { nodes = c.put-key.new.self } in
     (lit< tt, (lit< tt, plan_there old mid _ _ _ _ (leaf_plan old mid c.args.prefix.now c.args.index c.args.spot.now c.put-key.result c.requires.spot c.requires.none c.requires.block c.put-key.ensures.vacant c.put-key.ensures.updates refl)))
 
-pub returns : goal.returns
-returns g c =
+pub returns-clause-change : goal.returns-clause-change
+returns-clause-change g c =
     let old = c.args.trie.now in
     let mid = record old { nodes = c.put-key.new.self } in
     let plan = leaf_plan old mid c.args.prefix.now c.args.index c.args.spot.now c.put-key.result c.requires.spot c.requires.none c.requires.block c.put-key.ensures.vacant c.put-key.ensures.updates refl in

@@ -23,8 +23,8 @@ relink-requires g c =
     let updates = subst (λ (n : Node w). Updates old.nodes.slots mid.nodes.slots c.put-key.result (Some n)) c.parted-node.ensures c.put-key.ensures.updates in
     (lit< tt, (lit< tt, plan_there old mid _ _ _ _ (over_plan old mid q c.args.index c.args.spot.now c.args.entry.now c.put-key.result c.bit-right.result c.requires.spot c.requires.here c.requires.block c.requires.shorter c.requires.covering bit c.put-key.ensures.vacant updates refl)))
 
-pub returns : goal.returns
-returns g c =
+pub returns-clause-change : goal.returns-clause-change
+returns-clause-change g c =
     let old = c.args.trie.now in
     let mid = record old { nodes = c.put-key.new.self } in
     let w = g.row.W in

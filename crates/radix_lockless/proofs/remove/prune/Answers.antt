@@ -18,8 +18,8 @@ relink-requires g c =
     let mid = record old { nodes = c.take-2.new.self } in
     (lit< tt, (lit< tt, plan_there old mid _ _ _ _ (prune_plan old first mid c.args.spot.now c.args.entry.now c.args.link.now c.requires.spot c.requires.here c.requires.above c.requires.bare c.requires.no_left c.requires.no_right c.take.ensures.updates c.take-2.ensures.updates refl)))
 
-pub returns : goal.returns
-returns g c =
+pub returns-clause-change : goal.returns-clause-change
+returns-clause-change g c =
     let old = c.args.trie.now in
     let first = record old { nodes = c.take.new.self } in
     let mid = record old { nodes = c.take-2.new.self } in

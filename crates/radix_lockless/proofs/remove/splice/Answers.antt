@@ -11,8 +11,8 @@ relink-requires g c =
     let mid = record old { nodes = c.take.new.self } in
     (lit< tt, (lit< tt, plan_there old mid _ _ _ _ (splice_plan old mid c.args.spot.now c.args.entry.now c.args.child c.requires.spot c.requires.here c.requires.child c.requires.lone c.requires.free c.take.ensures.updates refl)))
 
-pub returns : goal.returns
-returns g c =
+pub returns-clause-change : goal.returns-clause-change
+returns-clause-change g c =
     let old = c.args.trie.now in
     let mid = record old { nodes = c.take.new.self } in
     let plan = splice_plan old mid c.args.spot.now c.args.entry.now c.args.child c.requires.spot c.requires.here c.requires.child c.requires.lone c.requires.free c.take.ensures.updates refl in

@@ -28,14 +28,15 @@ loop-i-preserved g c =
     let so_far : IsEditedFrom old mid edits (i + 1) = subst (λ (n : ℕ). IsEditedFrom old mid edits n) back c.loop-i.invariant.made in
     let prefix = c.prefix.ensures ∙ sym (ap (λ (x : IndexChange). x.prefix) c.index-self-i.is) in
     let after = c.after.ensures.value ∙ sym (ap (λ (x : IndexChange). x.after) c.index-self-i.is) in
-    let change : IsChange mid new e.prefix e.after = subst (λ (x : Option ℕ). IsChange mid new e.prefix x) after (subst (λ (p : Block). IsChange mid new p c.after.result) prefix c.set_row.ensures) in
+    let change : IsChange mid new e.prefix e.after = subst (λ (x : Option ℕ). IsChange mid new e.prefix x) after (subst (λ (p : Block). IsChange mid new p c.after.result) prefix c.set_row.ensures.change) in
     let spare = change.spare in
     let room = c.loop-i.invariant.room in
     record {
-      made = edited_more old mid new edits i e inside is so_far change;
+      made = edited_more old mid new edits i e inside is so_far change c.set_row.ensures.little;
       same = c.loop-i.invariant.same;
       room = omega (arith, spare, room);
       within = omega (arith, within);
+      most = omega (arith, c.loop-i.invariant.most, c.set_row.ensures.little.room);
     }
 
 pub returns : goal.returns
@@ -44,4 +45,4 @@ returns g c =
     let new = c.loop-i.self.trie in
     let edits = c.args.self.now.edits.now in
     let zero : c.loop-i.i ≡ 0 = omega arith in
-    edited_all old new edits (subst (λ (n : ℕ). IsEditedFrom old new edits n) zero c.loop-i.invariant.made)
+    (edited_all old new edits (subst (λ (n : ℕ). IsEditedFrom old new edits n) zero c.loop-i.invariant.made), c.loop-i.invariant.most)

@@ -15,10 +15,10 @@ loop-i-preserved g c =
     let same : c.loop-i.self.rows.now ≡ rows = ap (λ r. r.now) c.loop-i.invariant.same in
     let inside : i < length rows = omega arith in
     let is : row ≡ get_or rows i row = subst (λ (r : Block × ℕ). r ≡ get_or rows i r) c.index-self-i.is (c.index-self-i.is ∙ ap (λ (xs : List (Block × ℕ)). get_or xs i read) same) in
-    let spare = c.set_row.ensures.spare in
+    let spare = c.set_row.ensures.change.spare in
     let room = c.loop-i.invariant.room in
     record {
-      stands = subst (λ (xs : List (Block × ℕ)). StandsFor (node_at new.nodes.slots) new.root xs) (set_next rows i row c.requires.0 inside is) (c.set_row.ensures.rows (take i rows) c.loop-i.invariant.stands);
+      stands = subst (λ (xs : List (Block × ℕ)). StandsFor (node_at new.nodes.slots) new.root xs) (set_next rows i row c.requires.0 inside is) (c.set_row.ensures.change.rows (take i rows) c.loop-i.invariant.stands);
       same = c.loop-i.invariant.same;
       room = omega (arith, spare, room);
     }

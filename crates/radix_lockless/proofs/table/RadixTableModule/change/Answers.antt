@@ -8,15 +8,13 @@ use Rattle.radix_lockless.proofs.table.RadixTableModule.change.Goals as goal
 
 pub invariant_of-self-2 : goal.invariant_of-self-2
 invariant_of-self-2 g c =
-    let there : c.deref_mut.result.now ≡ c.self.inside.form.value = search rules in
-    let edited = subst (λ (f : Form g.row.W). IsEdited (linked_of f) (linked_of c.make_edits.new.form) c.as_slice.result.now) there c.in_ok-make_edits.ensures.ok in
-    sound_edited (linked_of c.self.inside.form.value) (linked_of c.make_edits.new.form) c.as_slice.result.now edited c.self.invariant
+    let edited = c.in_ok-make_edits.ensures.ok in
+    sound_edited (linked_of c.self.inside.form) (linked_of c.make_edits.new.form) c.as_slice.result.now edited c.self.invariant
 
 pub returns-clause-done : goal.returns-clause-done
 returns-clause-done g c =
-    let there : c.deref_mut.result.now ≡ c.self.inside.form.value = search rules in
-    let edited = subst (λ (f : Form g.row.W). IsEdited (linked_of f) (linked_of c.make_edits.new.form) c.as_slice.result.now) there c.in_ok-make_edits.ensures.ok in
-    let old = linked_of c.self.inside.form.value in
+    let edited = c.in_ok-make_edits.ensures.ok in
+    let old = linked_of c.self.inside.form in
     let new = linked_of c.make_edits.new.form in
     let view = c.args.view.now in
     let edit = c.args.edit.now in

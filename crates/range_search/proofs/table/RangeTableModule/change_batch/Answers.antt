@@ -2,7 +2,7 @@
 use Rattle.std.proofs.Common.{◌≡◌, ◌∙◌, subst}
 use Rattle.std.specs.Map.{keys_of}
 use Rattle.module_trait.proofs.EditLemmas.{indexes_after_all}
-use Rattle.row_cells.specs.Starts.{AreRight, starts_of}
+use Rattle.module_trait.specs.Starts.{AreRight, starts_of}
 use Rattle.range_search.proofs.table.RangeTableModule.change_batch.Goals as goal
 
 pub returns-clause-done : goal.returns-clause-done

@@ -1,6 +1,0 @@
-pub mod CentralLaw
-pub mod IndexLemmas
-pub mod NeighbourLemmas
-pub mod StartLemmas
-pub mod SweepLemmas
-pub mod UpLemmas
