@@ -1,5 +1,6 @@
 pub mod Laws
 pub mod Order
 pub mod PathList
+pub mod PathStore
 pub mod Slots
 pub mod Target

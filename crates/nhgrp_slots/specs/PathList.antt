@@ -23,23 +23,27 @@ is_via Direct = false
 is_via Blackhole = false
 is_via Reject = false
 
+-- what a list of paths is seen as
+abbrev pub PathList : Type 0
+PathList = List WeightedHop
+
 -- the nexthops of the paths
-abbrev pub hops : List WeightedHop → List Hop
+abbrev pub hops : PathList → List Hop
 hops ps = map (λ p. p.nexthop) ps
 
 -- the paths of a route: 1 to 64 with strictly ascending nexthops, where one that drops packets stands alone
-pub record IsPathList (ps : List WeightedHop) : Type 0 where
+pub record IsPathList (ps : PathList) : Type 0 where
   pub some : 1 ≤ length ps
   pub room : length ps ≤ 64
   pub ascend : IsStrictlySortedBy hop_cmp (hops ps)
   pub alone : 2 ≤ length ps → list_any (λ p. drops p.nexthop.kind) ps ≡ false
 
 -- a group: a list of two paths or more
-abbrev pub IsGroup : List WeightedHop → Type 0
+abbrev pub IsGroup : PathList → Type 0
 IsGroup ps = 2 ≤ length ps
 
 -- the paths with one more, before the first whose nexthop is greater
-abbrev pub put_path : List WeightedHop → WeightedHop → List WeightedHop
+abbrev pub put_path : PathList → WeightedHop → PathList
 put_path [] p = p ∷ []
 put_path (q ∷ qs) p = if is_lt (hop_cmp p.nexthop q.nexthop) then p ∷ q ∷ qs else q ∷ put_path qs p
 
@@ -48,11 +52,11 @@ abbrev pub clashes_with : WeightedHop → WeightedHop → Bool
 clashes_with p q = is_eq (hop_cmp q.nexthop p.nexthop) || drops q.nexthop.kind
 
 -- whether a path may not join the others
-abbrev pub clashes : List WeightedHop → WeightedHop → Bool
+abbrev pub clashes : PathList → WeightedHop → Bool
 clashes ps p = list_any (clashes_with p) ps || drops p.nexthop.kind
 
 -- whether one of the paths has the nexthop
-abbrev pub names : Hop → List WeightedHop → Bool
+abbrev pub names : Hop → PathList → Bool
 names h ps = list_any (λ p. is_eq (hop_cmp h p.nexthop)) ps
 
 -- whether a path goes by this gateway
@@ -60,14 +64,14 @@ abbrev pub goes_by : ℕ → WeightedHop → Bool
 goes_by g p = is_via p.nexthop.kind && (p.nexthop.gateway == g)
 
 -- whether one of the paths goes by a gateway
-abbrev pub has_via : List WeightedHop → Bool
+abbrev pub has_via : PathList → Bool
 has_via ps = list_any (λ p. is_via p.nexthop.kind) ps
 
 -- the paths that do not go by this gateway
-abbrev pub left_by : ℕ → List WeightedHop → List WeightedHop
+abbrev pub left_by : ℕ → PathList → PathList
 left_by g ps = filter (λ p. not (goes_by g p)) ps
 
 -- the paths, where there are any
-abbrev pub paths_left : List WeightedHop → Option (List WeightedHop)
+abbrev pub paths_left : PathList → Option (PathList)
 paths_left [] = None
 paths_left (p ∷ ps) = Some (p ∷ ps)

@@ -2,15 +2,15 @@
 use Rattle.std.specs.Prelude.{◌≡◌, ◌==◌, ◌<◌, ◌≤◌, ℕ, suc, zero, ◌-◌, ◌*◌, ◌/◌, ◌%◌, min, Bool, List, [], ◌∷◌, ◌++◌, length, All, sum, replicate, map, Option, slice_get, if◌then◌else◌}
 use Rattle.std.specs.List.{list_all}
 use Rattle.prefix_width.specs.Nexthop.{Hop}
-use Rattle.prefix_width.specs.Path.{WeightedHop, IsWeight}
-use Rattle.nhgrp_slots.specs.PathList.{hops}
+use Rattle.prefix_width.specs.Path.{IsWeight}
+use Rattle.nhgrp_slots.specs.PathList.{PathList, hops}
 
 -- the weights of the paths
-abbrev pub weights : List WeightedHop → List ℕ
+abbrev pub weights : PathList → List ℕ
 weights ps = map (λ p. p.weight) ps
 
 -- one path or more, each of a weight that a path may have
-abbrev pub HaveWeights : List WeightedHop → Type 0
+abbrev pub HaveWeights : PathList → Type 0
 HaveWeights ps = (1 ≤ length ps) × All (λ p. IsWeight p.nexthop.kind p.weight) ps
 
 -- the greatest number from n down that passes the test, or 0
@@ -47,15 +47,15 @@ fill (n ∷ ns) (x ∷ xs) = replicate n x ++ fill ns xs
 fill ns xs = []
 
 -- the slots of the paths, each path standing there as its mark
-abbrev pub slots_of : {X : Type 0} → List WeightedHop → List X → List X
+abbrev pub slots_of : {X : Type 0} → PathList → List X → List X
 slots_of ps marks = fill (shares_of (weights ps)) marks
 
 -- the nexthop of a flow
-abbrev pub pick : List WeightedHop → ℕ → Option Hop
+abbrev pub pick : PathList → ℕ → Option Hop
 pick ps flow = slice_get (slots_of ps (hops ps)) (flow % size_of (weights ps))
 
 -- slots in which the slot of each flow holds the index of a path, and its nexthop is the flow's
-abbrev pub HoldPicked : List WeightedHop → List ℕ → List ℕ → Type 0
+abbrev pub HoldPicked : PathList → List ℕ → List ℕ → Type 0
 HoldPicked ps indexes slots =
     (flow : ℕ) → (i : ℕ) × (i < length ps) × (slice_get (hops ps) i ≡ pick ps flow)
     × (slice_get indexes i ≡ slice_get slots (flow % length slots))

@@ -12,13 +12,12 @@ pub struct GroupTable<const W: u32> {
 }
 
 impl<const W: u32> Model for GroupTable<W> {
-    ghost use Rattle.std.specs.Prelude.{List, All};
+    ghost use Rattle.std.specs.Prelude.{All};
     ghost use Rattle.std.specs.Map.{keys_of};
-    ghost use Rattle.prefix_width.specs.Path.{WeightedHop};
     ghost use Rattle.counted_map.specs.Counts.{Counts};
-    ghost use Rattle.nhgrp_slots.specs.PathList.{IsGroup};
+    ghost use Rattle.nhgrp_slots.specs.PathList.{PathList, IsGroup};
 
-    ghost Value = { Counts (List WeightedHop) };
+    ghost Value = { Counts PathList };
 
     ghost view = { λ t. t.counts };
 
@@ -26,7 +25,7 @@ impl<const W: u32> Model for GroupTable<W> {
 }
 
 impl<const W: u32> GroupTable<W> {
-    ghost use Rattle.std.specs.Prelude.{◌≡◌, ◌-◌, ◌<◌, ◌≤◌, ◌^◌, [], length, All, OnOk, OnErr, IfOk};
+    ghost use Rattle.std.specs.Prelude.{◌≡◌, ◌-◌, ◌<◌, ◌≤◌, ◌^◌, [], length, All, OnOk, OnErr, IfOk, IsOk};
     ghost use Rattle.std.specs.Map.{keys_of};
     ghost use Rattle.counted_map.specs.Counts.{count_of, linked, unlinked, IsCounts};
     ghost use Rattle.nhgrp_slots.specs.Order.{paths_cmp};
@@ -41,13 +40,14 @@ impl<const W: u32> GroupTable<W> {
         }
     }
 
-    /// Counts one more use of the group. It is copied at its first use alone, and no other use
-    /// takes memory. An error leaves the table as it was.
+    /// Counts one more use of the group. A copy is kept at its first use, and no other use takes
+    /// memory. An error leaves the table as it was.
     pub fn link(&mut self, alloc: Global, group: &Paths<W>) -> Result<(), OutOfMemory>
         requires several { 2 ≤ length group.now }
         requires count { count_of paths_cmp self.old group.now < 2 ^ 32 - 1 }
         requires room { length self.old < 2 ^ 32 - 1 }
         ensures ok { OnOk result (self.new ≡ linked paths_cmp self.old group.now) }
+        ensures again { 1 ≤ count_of paths_cmp self.old group.now → IsOk result }
         ensures err { OnErr result (self.new ≡ self.old) }
     {
         if self.counts.increase(group) {

@@ -3,24 +3,32 @@ use prefix_width::{Addr, Nexthop, Path};
 use std::alloc::Global;
 use std::cmp::Ordering;
 use std::marker::Model;
+use std::sync::Arc;
+
+/// Where paths are kept: one in place, several behind a handle that copies share.
+#[derive(Debug, Drop)]
+enum PathStore<const W: u32> {
+    Single([Path<W>; 1]),
+    Shared(Arc<Vec<Path<W>>>),
+}
 
 /// The paths of a route, seen as a list: 1 to 64 of them, with strictly ascending nexthops. One
-/// that drops packets stands alone. Two lists are compared path by path.
+/// that drops packets stands alone. Two lists are compared path by path. Copies share their paths.
 #[derive(Debug, Drop)]
 pub struct Paths<const W: u32> {
-    paths: Vec<Path<W>>,
+    store: PathStore<W>,
 }
 
 impl<const W: u32> Model for Paths<W> {
-    ghost use Rattle.std.specs.Prelude.{List};
-    ghost use Rattle.prefix_width.specs.Path.{WeightedHop};
-    ghost use Rattle.nhgrp_slots.specs.PathList.{IsPathList};
+    ghost use Rattle.nhgrp_slots.specs.PathList.{PathList, IsPathList};
 
-    ghost Value = { List WeightedHop };
+    ghost Value = { PathList };
 
-    ghost view = { λ p. p.paths.items };
+    ghost use Rattle.nhgrp_slots.specs.PathStore.{stored};
 
-    ghost invariant = { λ p. IsPathList p.paths.items };
+    ghost view = { λ p. stored p.store };
+
+    ghost invariant = { λ p. IsPathList (stored p.store) };
 }
 
 impl<const W: u32> Paths<W> {
@@ -34,9 +42,10 @@ impl<const W: u32> Paths<W> {
     pub fn one(alloc: Global, path: Path<W>) -> Result<Paths<W>, OutOfMemory>
         ensures { IfOk result (λ p. p ≡ path.entry ∷ []) }
     {
-        let mut paths = Vec::new(alloc);
-        paths.push(path)?;
-        Ok(Paths { paths })
+        let _ = alloc;
+        Ok(Paths {
+            store: PathStore::Single([path]),
+        })
     }
 
     /// The list with one path more, before the first whose nexthop is greater.
@@ -45,9 +54,9 @@ impl<const W: u32> Paths<W> {
         ensures { IfOk result (λ p. p ≡ put_path self.now path.entry) }
     {
         let place = self.place_of(&path);
-        let mut paths = Vec::from_slice(alloc, &self.paths)?;
+        let mut paths = Vec::from_slice(alloc, self.as_slice())?;
         paths.insert(place, path)?;
-        Ok(Paths { paths })
+        Paths::kept(alloc, paths)
     }
 
     /// The paths that do not go by the gateway, where there are any.
@@ -55,7 +64,7 @@ impl<const W: u32> Paths<W> {
         ensures { IfOk result (λ p. p ≡ paths_left (left_by gateway.now self.now)) }
     {
         let mut paths = Vec::new(alloc);
-        for path in &self.paths {
+        for path in self.as_slice() {
             if !path_facts::goes_by(path, gateway) {
                 paths.push(*path)?;
             }
@@ -63,15 +72,20 @@ impl<const W: u32> Paths<W> {
         if paths.is_empty() {
             return Ok(None);
         }
-        Ok(Some(Paths { paths }))
+        let left = Paths::kept(alloc, paths)?;
+        Ok(Some(left))
     }
 
-    /// An equal list.
+    /// An equal list, which shares its paths with this one: no path is copied but a lone one.
     pub fn copy(&self, alloc: Global) -> Result<Paths<W>, OutOfMemory>
         ensures { IfOk result (λ p. p ≡ self.now) }
     {
-        let paths = Vec::from_slice(alloc, &self.paths)?;
-        Ok(Paths { paths })
+        let _ = alloc;
+        let store = match &self.store {
+            PathStore::Single(paths) => PathStore::Single(*paths),
+            PathStore::Shared(paths) => PathStore::Shared(Arc::try_clone(paths)?),
+        };
+        Ok(Paths { store })
     }
 
     /// How many paths, 1 to 64, and what every such list knows of its paths.
@@ -79,7 +93,7 @@ impl<const W: u32> Paths<W> {
         ensures count { result ≡ length self.now }
         ensures list { IsPathList self.now }
     {
-        self.paths.len() as u8
+        self.as_slice().len() as u8
     }
 
     /// The path at a place, counted from 0.
@@ -87,7 +101,7 @@ impl<const W: u32> Paths<W> {
         requires { i < length self.now }
         ensures { slice_get self.now i ≡ Some result.now }
     {
-        &self.paths[usize::from(i)]
+        &self.as_slice()[usize::from(i)]
     }
 
     /// The paths.
@@ -95,7 +109,10 @@ impl<const W: u32> Paths<W> {
         ensures items { result.now ≡ self.now }
         ensures list { IsPathList self.now }
     {
-        &self.paths
+        match &self.store {
+            PathStore::Single(paths) => paths,
+            PathStore::Shared(paths) => paths,
+        }
     }
 
     /// Whether the path may not join these: its nexthop is there, or one of them drops packets.
@@ -109,7 +126,7 @@ impl<const W: u32> Paths<W> {
     pub fn has_nexthop(&self, nexthop: &Nexthop<W>) -> bool
         ensures { result ≡ names nexthop.now self.now }
     {
-        self.paths.iter().any(
+        self.as_slice().iter().any(
             |path: &Path<W>| -> bool
                 ensures { result ≡ is_eq (hop_cmp nexthop.entry.now path.now.nexthop) }
             { nexthop == path.nexthop() },
@@ -120,7 +137,7 @@ impl<const W: u32> Paths<W> {
     pub fn goes_by(&self, gateway: &Addr<W>) -> bool
         ensures { result ≡ list_any (goes_by gateway.now) self.now }
     {
-        self.paths.iter().any(
+        self.as_slice().iter().any(
             |path: &Path<W>| -> bool
                 ensures { result ≡ goes_by gateway.entry.now path.now }
             { path_facts::goes_by(path, gateway) },
@@ -131,18 +148,31 @@ impl<const W: u32> Paths<W> {
     pub fn has_via(&self) -> bool
         ensures { result ≡ has_via self.now }
     {
-        self.paths.iter().any(
+        self.as_slice().iter().any(
             |path: &Path<W>| -> bool
                 ensures { result ≡ is_via path.now.nexthop.kind }
             { path_facts::is_via(path.nexthop().kind()) },
         )
     }
 
+    /// The list of these paths.
+    fn kept(alloc: Global, paths: Vec<Path<W>>) -> Result<Paths<W>, OutOfMemory>
+        requires { IsPathList paths.items }
+        ensures { IfOk result (λ p. p ≡ paths.entry.items) }
+    {
+        let store = if paths.len() == 1 {
+            PathStore::Single([paths[0]])
+        } else {
+            PathStore::Shared(Arc::new(alloc, paths)?)
+        };
+        Ok(Paths { store })
+    }
+
     /// Whether the path may not stand beside one of these.
     fn clashes_within(&self, path: &Path<W>) -> bool
         ensures { result ≡ list_any (clashes_with path.now) self.now }
     {
-        self.paths.iter().any(
+        self.as_slice().iter().any(
             |other: &Path<W>| -> bool
                 ensures { result ≡ clashes_with path.entry.now other.now }
             { path_facts::clashes_with(path, other) },
@@ -153,7 +183,7 @@ impl<const W: u32> Paths<W> {
     fn first_after(&self, path: &Path<W>) -> Option<usize>
         ensures { result ≡ position (λ q. is_lt (hop_cmp path.now.nexthop q.nexthop)) self.now }
     {
-        self.paths.iter().position(
+        self.as_slice().iter().position(
             |other: &Path<W>| -> bool
                 ensures { result ≡ is_lt (hop_cmp path.entry.now.nexthop other.now.nexthop) }
             { path_facts::is_before(path, other) },
@@ -166,7 +196,7 @@ impl<const W: u32> Paths<W> {
         ensures place { result ≡ position_or_len (λ q. is_lt (hop_cmp path.now.nexthop q.nexthop)) self.now }
         ensures bound { result ≤ length self.now }
     {
-        self.first_after(path).unwrap_or(self.paths.len())
+        self.first_after(path).unwrap_or(self.as_slice().len())
     }
 }
 
@@ -218,6 +248,6 @@ impl<const W: u32> Ord for Paths<W> {
     ghost matches_eq = { λ x y. refl };
 
     fn cmp(&self, other: &Paths<W>) -> Ordering {
-        self.paths.cmp(&other.paths)
+        self.as_slice().cmp(other.as_slice())
     }
 }

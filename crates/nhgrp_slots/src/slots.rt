@@ -8,24 +8,26 @@ use crate::paths::Paths;
 use prefix_width::{Nexthop, Path};
 use std::alloc::Global;
 use std::marker::Model;
+use std::sync::Arc;
 
 /// The most slots of a group.
 const SLOTS_MAX: u32 = 64;
 
-/// A group's slots, seen as a list of 1 to 64 indexes.
+/// A group's slots, seen as a list of 1 to 64 indexes. Copies share them.
 #[derive(Drop)]
 pub struct Slots {
-    indexes: Vec<u16>,
+    indexes: Arc<Vec<u16>>,
 }
 
 impl Model for Slots {
     ghost use Rattle.std.specs.Prelude.{List, ℕ, ◌≤◌, length};
+    ghost use Rattle.std.specs.Arc.{arc_value};
 
     ghost Value = { List ℕ };
 
-    ghost view = { λ s. s.indexes.items };
+    ghost view = { λ s. (arc_value s.indexes).items };
 
-    ghost invariant = { λ s. (1 ≤ length s.indexes.items) × (length s.indexes.items ≤ 64) };
+    ghost invariant = { λ s. (1 ≤ length (arc_value s.indexes).items) × (length (arc_value s.indexes).items ≤ 64) };
 }
 
 impl Slots {
@@ -47,11 +49,12 @@ impl Slots {
         self.indexes[flow as usize % self.indexes.len()]
     }
 
-    /// Equal slots.
+    /// Equal slots, shared with these: nothing is copied.
     pub fn copy(&self, alloc: Global) -> Result<Slots, OutOfMemory>
         ensures { IfOk result (λ s. s ≡ self.now) }
     {
-        let indexes = Vec::from_slice(alloc, &self.indexes)?;
+        let _ = alloc;
+        let indexes = Arc::try_clone(&self.indexes)?;
         Ok(Slots { indexes })
     }
 }
@@ -68,7 +71,8 @@ pub fn compile<const W: u32>(
     ensures slots { IfOk result (λ s. s ≡ slots_of paths.now indexes.now) }
     ensures picked { IfOk result (λ s. HoldPicked paths.now indexes.now s) }
 {
-    let indexes = filled(alloc, paths.as_slice(), indexes)?;
+    let slots = filled(alloc, paths.as_slice(), indexes)?;
+    let indexes = Arc::new(alloc, slots)?;
     Ok(Slots { indexes })
 }
 

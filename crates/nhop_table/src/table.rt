@@ -20,7 +20,7 @@ impl<const W: u32> Model for NhopTable<W> {
 }
 
 impl<const W: u32> NhopTable<W> {
-    ghost use Rattle.std.specs.Prelude.{◌≡◌, ◌-◌, ◌<◌, ◌≤◌, ◌^◌, [], length, OnOk, OnErr, IfOk};
+    ghost use Rattle.std.specs.Prelude.{◌≡◌, ◌-◌, ◌<◌, ◌≤◌, ◌^◌, [], length, OnOk, OnErr, IfOk, IsOk};
     ghost use Rattle.std.specs.Map.{keys_of};
     ghost use Rattle.prefix_width.specs.Order.{hop_cmp};
     ghost use Rattle.counted_map.specs.Counts.{count_of, linked, unlinked, IsCounts};
@@ -40,6 +40,7 @@ impl<const W: u32> NhopTable<W> {
         requires count { count_of hop_cmp self.old nexthop.now < 2 ^ 32 - 1 }
         requires room { length self.old < 2 ^ 32 - 1 }
         ensures ok { OnOk result (self.new ≡ linked hop_cmp self.old nexthop.now) }
+        ensures again { 1 ≤ count_of hop_cmp self.old nexthop.now → IsOk result }
         ensures err { OnErr result (self.new ≡ self.old) }
     {
         if self.counts.increase(nexthop) {

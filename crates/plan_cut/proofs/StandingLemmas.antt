@@ -3,10 +3,26 @@ use Rattle.std.proofs.Common.{◌≡◌, ℕ, zero, suc, ◌+◌, ◌-◌, ◌<�
 use Rattle.std.specs.Prelude.{◌==◌, nat_le, nat_lt, if◌then◌else◌}
 use Rattle.std.proofs.lemmas.Bool.{cases_Bool, cases_lt, leb-true, ne_eqb, eq-eqb, lt-ltb, le-ltb, and_left, and_right, and_from, cond_both}
 use Rattle.std.proofs.lemmas.Bool.Decides.{nat_tests}
-use Rattle.plan_cut.specs.Course.{Beat, Edits, Ticks, Syncs, Algos, Course, IsCommand}
+use Rattle.plan_cut.specs.Course.{Beat, Edits, Ticks, Syncs, Algos, Course, IsCommand, ms_of}
 use Rattle.plan_cut.specs.Counters.{Counters, tally, moment, start, count, newer, counters_at}
 use Rattle.plan_cut.specs.Versions.{Version, asks, makes_after, following, latest, makes, differs_at}
-use Rattle.plan_cut.specs.Standing.{StandsAt, counted, passed, opened, raised}
+use Rattle.plan_cut.specs.Standing.{StandsAt}
+
+-- the numbers once the milliseconds of a command have passed
+abbrev pub passed : Beat → Counters → Counters
+passed beat now = record now { moment = now.moment + ms_of beat }
+
+-- the numbers once a change has opened a new bucket, where the last is 50 milliseconds old or older
+abbrev pub opened : Counters → Counters
+opened now = if nat_le 50 (now.moment - now.start) then record now { start = now.moment; count = 0 } else now
+
+-- the numbers with one change more
+abbrev pub raised : Counters → Counters
+raised now = record now { count = now.count + 1; pending = now.pending + 1 }
+
+-- the numbers once a command has been counted
+abbrev pub counted : Bool → Beat → Counters → Counters
+counted changed beat now = if changed then raised (opened (passed beat now)) else passed beat now
 
 -- the numbers once it is decided whether a version is cut
 abbrev settled : Bool → Counters → Counters
@@ -166,13 +182,20 @@ counted_now course m s ch b at is =
     let f = is.same_beat in
     cc
 
-pub stands_on : (course : Course) (m : ℕ) (s : Counters) (ch : Bool) (b : Beat) (d : Bool) → StandsAt course m s → IsCommand course (m + 1) ch b →
-    StandsAt course (m + 1) (settled (asks ch b d (counted ch b s)) (counted ch b s))
-stands_on course m s ch b d at is =
-    let P : ℕ → Type 0 = λ k. IsCommand course k ch b → StandsAt course k (settled (asks ch b d (counted ch b s)) (counted ch b s)) in
+-- what a command makes of the numbers of a cutter that stands at m
+pub counted_next : (course : Course) (m : ℕ) (new s : Counters) (ch : Bool) (b : Beat) → StandsAt course m s → IsCommand course (m + 1) ch b → new ≡ counted ch b s →
+    new ≡ counters_at course (latest course m).count (m + 1)
+counted_next course m new s ch b at is e =
+    let P : ℕ → Type 0 = λ k. IsCommand course k ch b → counted ch b s ≡ counters_at course (latest course m).count k in
+    e ∙ subst P (sym (add-one m)) (λ i. counted_now course m s ch b at i) is
+
+pub stands_on : (course : Course) (m : ℕ) (new : Counters) (ch : Bool) (b : Beat) (d : Bool) → new ≡ counters_at course (latest course m).count (m + 1) → IsCommand course (m + 1) ch b →
+    StandsAt course (m + 1) (settled (asks ch b d new) new)
+stands_on course m new ch b d e is =
+    let P : ℕ → Type 0 = λ k. new ≡ counters_at course (latest course m).count k → IsCommand course k ch b → StandsAt course k (settled (asks ch b d new) new) in
     let next = stands_next course m d in
-    let there : P (suc m) = λ i. let e = counted_now course m s ch b at i in let f = i.same_change in let g = i.same_beat in cc in
-    subst P (sym (add-one m)) there is
+    let there : P (suc m) = λ h i. let f = i.same_change in let g = i.same_beat in cc in
+    subst P (sym (add-one m)) there e is
 
 asks_by_algo : (ch : Bool) (b : Beat) (d d' : Bool) (s : Counters) → (b ≡ Algos → d ≡ d') → asks ch b d s ≡ asks ch b d' s
 asks_by_algo ch Edits d d' s same = refl
@@ -180,26 +203,25 @@ asks_by_algo ch (Ticks ms) d d' s same = refl
 asks_by_algo ch Syncs d d' s same = refl
 asks_by_algo ch Algos d d' s same = ap (λ x. asks ch Algos x s) (same refl)
 
-pub cuts_on : (course : Course) (m : ℕ) (s : Counters) (ch : Bool) (b : Beat) (d : Bool) → StandsAt course m s → IsCommand course (m + 1) ch b →
-    (b ≡ Algos → d ≡ differs_at course (m + 1) (latest course m)) → makes course (m + 1) ≡ asks ch b d (counted ch b s)
-cuts_on course m s ch b d at is same =
-    let P : ℕ → Type 0 = λ k. IsCommand course k ch b → (b ≡ Algos → d ≡ differs_at course k (latest course m)) → makes_after course k (latest course m) ≡ asks ch b d (counted ch b s) in
-    let there : P (suc m) = λ i j.
-    let e = counted_now course m s ch b at i in
+pub cuts_on : (course : Course) (m : ℕ) (new : Counters) (ch : Bool) (b : Beat) (d : Bool) → new ≡ counters_at course (latest course m).count (m + 1) → IsCommand course (m + 1) ch b →
+    (b ≡ Algos → d ≡ differs_at course (m + 1) (latest course m)) → makes course (m + 1) ≡ asks ch b d new
+cuts_on course m new ch b d e is same =
+    let P : ℕ → Type 0 = λ k. new ≡ counters_at course (latest course m).count k → IsCommand course k ch b → (b ≡ Algos → d ≡ differs_at course k (latest course m)) → makes_after course k (latest course m) ≡ asks ch b d new in
+    let there : P (suc m) = λ h i j.
     let f = i.same_change in
     let g = i.same_beat in
-    let h = asks_by_algo ch b d (differs_at course (suc m) (latest course m)) (counted ch b s) j in
+    let k = asks_by_algo ch b d (differs_at course (suc m) (latest course m)) new j in
     cc in
     let back : (m + 1) - 1 ≡ m = omega arith in
-    rw back (subst P (sym (add-one m)) there is same)
+    rw back (subst P (sym (add-one m)) there e is same)
 
-pub stands_now : (new : Counters) (course : Course) (m : ℕ) (s : Counters) (ch : Bool) (b : Beat) (d : Bool) → new ≡ counted ch b s → asks ch b d new ≡ true →
-    StandsAt course m s → IsCommand course (m + 1) ch b → StandsAt course (m + 1) (record new { pending = 0 })
-stands_now new course m s ch b d e y at is = let h = stands_on course m s ch b d at is in let f = ap (λ n. settled (asks ch b d n) n) e in cc
+pub stands_now : (new : Counters) (course : Course) (m : ℕ) (ch : Bool) (b : Beat) (d : Bool) → asks ch b d new ≡ true →
+    new ≡ counters_at course (latest course m).count (m + 1) → IsCommand course (m + 1) ch b → StandsAt course (m + 1) (record new { pending = 0 })
+stands_now new course m ch b d y e is = let h = stands_on course m new ch b d e is in cc
 
-pub stands_stay : (new : Counters) (course : Course) (m : ℕ) (s : Counters) (ch : Bool) (b : Beat) (d : Bool) → new ≡ counted ch b s → asks ch b d new ≡ false →
-    StandsAt course m s → IsCommand course (m + 1) ch b → StandsAt course (m + 1) new
-stands_stay new course m s ch b d e y at is = let h = stands_on course m s ch b d at is in let f = ap (λ n. settled (asks ch b d n) n) e in cc
+pub stands_stay : (new : Counters) (course : Course) (m : ℕ) (ch : Bool) (b : Beat) (d : Bool) → asks ch b d new ≡ false →
+    new ≡ counters_at course (latest course m).count (m + 1) → IsCommand course (m + 1) ch b → StandsAt course (m + 1) new
+stands_stay new course m ch b d y e is = let h = stands_on course m new ch b d e is in cc
 
 pub stands_new : (course : Course) → StandsAt course 0 (record { moment = 0; start = 0; count = 0; pending = 0 })
 unfolding tally start moment latest

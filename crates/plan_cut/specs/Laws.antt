@@ -1,6 +1,6 @@
 -- Laws of the list of all versions.
-use Rattle.std.specs.Prelude.{◌≡◌, ℕ, ◌+◌, ◌≤◌, List, Some, length, slice_get}
-use Rattle.rib_store.specs.declared.command.Command.{Command}
+use Rattle.std.specs.Prelude.{◌≡◌, ℕ, ◌+◌, ◌≤◌, Some, length, slice_get}
+use Rattle.rib_store.specs.Plan.{Planned}
 use Rattle.rib_store.specs.Table.{table_after}
 use Rattle.prefix_width.specs.Choice.{choose}
 use Rattle.plan_cut.specs.Course.{Course}
@@ -29,7 +29,7 @@ NumbersArePlaces =
 -- after its commands, where that of the first is the current one
 abbrev pub ModulesAreChosen : Type 0
 ModulesAreChosen =
-    (w : ℕ) (plan : List (Command w)) (v : ℕ) (current next : Version)
-    → slice_get (versions_of plan) v ≡ Some current
-    → slice_get (versions_of plan) (v + 1) ≡ Some next
-    → next.kind ≡ choose w (Some current.kind) (setting_after plan next.count) (length (table_after plan next.count))
+    (w live : ℕ) (plan : Planned w) (v : ℕ) (current next : Version)
+    → slice_get (versions_of live plan) v ≡ Some current
+    → slice_get (versions_of live plan) (v + 1) ≡ Some next
+    → next.kind ≡ choose w (Some current.kind) (setting_after plan next.count) (length (table_after live plan next.count))

@@ -3,4 +3,5 @@ pub mod Course
 pub mod Laws
 pub mod PlanCourse
 pub mod Standing
+pub mod VersionTable
 pub mod Versions

@@ -44,9 +44,10 @@ impl Model for Cutter {
 
 impl Cutter {
     ghost use Rattle.std.specs.Prelude.{◌≡◌, ℕ, ◌+◌, ◌<◌, ◌≤◌, ◌^◌, nat_lt};
+    ghost use Rattle.plan_cut.specs.Counters.{counters_at};
     ghost use Rattle.plan_cut.specs.Course.{Algos, Course, IsCommand};
     ghost use Rattle.plan_cut.specs.Versions.{asks, differs_at, latest, makes, makes_at_end};
-    ghost use Rattle.plan_cut.specs.Standing.{StandsAt, beat_of, counted, cut_of};
+    ghost use Rattle.plan_cut.specs.Standing.{StandsAt, beat_of, cut_of};
 
     /// The cutter before the first command.
     pub fn new() -> Cutter
@@ -104,12 +105,18 @@ impl Cutter {
         }
     }
 
+    /// Counts a command: the numbers are then those of the next position, where no version has been
+    /// cut since.
     fn count<const W: u32>(&mut self, changed: bool, command: &Command<W>)
         requires early { self.old.moment < 2 ^ 52 }
         requires few { self.old.count < 1048576 }
         requires waiting { self.old.pending < 1048576 }
-        ensures numbers { self.new ≡ counted changed (beat_of command.now) self.old }
+        ensures numbers { (course : Course) (m : ℕ) → StandsAt course m self.old
+            → IsCommand course (m + 1) changed (beat_of command.now)
+            → self.new ≡ counters_at course (latest course m).count (m + 1) }
         ensures moment { self.new.moment < self.old.moment + 2 ^ 32 }
+        ensures count { self.new.count ≤ self.old.count + 1 }
+        ensures pending { self.new.pending ≤ self.old.pending + 1 }
     {
         if let Command::Tick { ms } = command {
             self.moment += u64::from(*ms);
@@ -124,6 +131,7 @@ impl Cutter {
         }
     }
 
+    /// Whether a version is asked for, by the numbers as they are.
     fn asks<const W: u32>(&self, changed: bool, command: &Command<W>, differs: bool) -> bool
         ensures { result ≡ asks changed (beat_of command.now) differs self.now }
     {

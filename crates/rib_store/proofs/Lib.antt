@@ -1,9 +1,12 @@
 pub mod CountedLemmas
+pub mod KeptLemmas
 pub mod LawLemmas
 pub mod LimitLemmas
 pub mod LinkingLemmas
 pub mod LiveLemmas
 pub mod PlanLemmas
 pub mod ReplacedLemmas
+pub mod RowLemmas
 pub mod SettledLemmas
 pub mod TableLemmas
+pub mod TargetLemmas

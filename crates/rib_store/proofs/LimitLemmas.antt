@@ -9,13 +9,14 @@ use Rattle.prefix_width.specs.Path.{WeightedHop}
 use Rattle.prefix_width.specs.Order.{block_cmp}
 use Rattle.std.specs.BTreeMap.{is_at}
 use Rattle.nhgrp_slots.specs.PathList.{clashes, goes_by, has_via, left_by, paths_left}
+use Rattle.rib_store.specs.Limits.{routes_max}
 use Rattle.rib_store.specs.declared.command.Command.{Command}
 use Rattle.rib_store.specs.declared.command.Command.TheVariants.{Add, Change, Delete, Flush, Tick, Sync, Algo}
 use Rattle.rib_store.specs.declared.command.Reply.{Reply}
 use Rattle.rib_store.specs.declared.command.Refusal.{Refusal}
 use Rattle.rib_store.specs.declared.command.Refusal.TheVariants.{Exists, NotFound, PathsFull}
-use Rattle.rib_store.specs.Table.{Table, Outcome, paths_at, drop_row, left_by_flush, live_count, refused, limited, placed, settled, dropped, added, replaced, shortened, deleted, apply, apply_within}
-use Rattle.rib_store.specs.Limits.{IsWithin, unlimited, tried}
+use Rattle.rib_store.specs.Table.{Table, Outcome, paths_at, drop_row, left_by_flush, live_count, refused, limited, placed, settled, dropped, added, replaced, shortened, deleted, apply}
+use Rattle.rib_store.specs.Tried.{IsWithin, unlimited, tried}
 use Rattle.rib_store.specs.Laws.{LimitsAreTried, TablesAreWithin}
 use Rattle.rib_store.proofs.LiveLemmas.{Among, live_count-le}
 
@@ -55,58 +56,58 @@ length-kept-le t rows =
     let b = count_by-le-length t rows in
     omega arith
 
-module _ (routes live : ℕ) (rows : Table) where
+module _ (live : ℕ) (rows : Table) where
   -- what was made is within the limits, or the table as it was
-  pub limited_within : (made : Outcome) → IsWithin routes live rows → IsWithin routes live (limited routes live rows made).table
-  limited_within made is = go (nat_lt routes (length made.table)) (nat_lt live (live_count made.table)) refl refl
+  pub limited_within : (made : Outcome) → IsWithin live rows → IsWithin live (limited live rows made).table
+  limited_within made is = go (nat_lt routes_max (length made.table)) (nat_lt live (live_count made.table)) refl refl
     where
-      go : (r t : Bool) → nat_lt routes (length made.table) ≡ r → nat_lt live (live_count made.table) ≡ t → IsWithin routes live (limited routes live rows made).table
+      go : (r t : Bool) → nat_lt routes_max (length made.table) ≡ r → nat_lt live (live_count made.table) ≡ t → IsWithin live (limited live rows made).table
       go true t e f = rw e is
       go false true e f = rw (e, f) is
       go false false e f = rw (e, f) (record { room = grind (arith, nat_tests); few = grind (arith, nat_tests) })
 
-  module _ (is : IsWithin routes live rows) where
+  module _ (is : IsWithin live rows) where
     -- a table that has no more of either passes no limit
-    passes : (made : Outcome) → length made.table ≤ length rows → live_count made.table ≤ live_count rows → made ≡ limited routes live rows made
+    passes : (made : Outcome) → length made.table ≤ length rows → live_count made.table ≤ live_count rows → made ≡ limited live rows made
     passes made r t =
         let room = is.room in
         let few = is.few in
-        let a : nat_lt routes (length made.table) ≡ false = grind (arith, nat_tests) in
+        let a : nat_lt routes_max (length made.table) ≡ false = grind (arith, nat_tests) in
         let b : nat_lt live (live_count made.table) ≡ false = grind (arith, nat_tests) in
         rw (a, b) refl
 
-    refuses : (why : Refusal) → refused rows why ≡ limited routes live rows (refused rows why)
+    refuses : (why : Refusal) → refused rows why ≡ limited live rows (refused rows why)
     refuses why = passes (refused rows why) (omega arith) (omega arith)
 
-    drops : (b : Block) → dropped rows b ≡ limited routes live rows (dropped rows b)
+    drops : (b : Block) → dropped rows b ≡ limited live rows (dropped rows b)
     drops b = passes (dropped rows b) (length-left-le (is_at (block_cmp b)) rows) (live_count-le (drop_row rows b) rows (among_left (is_at (block_cmp b)) rows))
 
-    refused_or : (t : Bool) (why : Refusal) (x y : Outcome) → x ≡ limited routes live rows y → cond t (refused rows why) x ≡ limited routes live rows (cond t (refused rows why) y)
+    refused_or : (t : Bool) (why : Refusal) (x y : Outcome) → x ≡ limited live rows y → cond t (refused rows why) x ≡ limited live rows (cond t (refused rows why) y)
     refused_or true why x y e = refuses why
     refused_or false why x y e = e
 
-    or_refused : (t : Bool) (why : Refusal) (x y : Outcome) → x ≡ limited routes live rows y → cond t x (refused rows why) ≡ limited routes live rows (cond t y (refused rows why))
+    or_refused : (t : Bool) (why : Refusal) (x y : Outcome) → x ≡ limited live rows y → cond t x (refused rows why) ≡ limited live rows (cond t y (refused rows why))
     or_refused true why x y e = e
     or_refused false why x y e = refuses why
 
-    adds : (b : Block) (p : WeightedHop) (o : Option (List WeightedHop)) → added (settled routes live) rows b p o ≡ limited routes live rows (added placed rows b p o)
+    adds : (b : Block) (p : WeightedHop) (o : Option (List WeightedHop)) → added (settled live) rows b p o ≡ limited live rows (added placed rows b p o)
     adds b p None = refl
     adds b p (Some paths) = refused_or (clashes paths p) Exists _ _ (refused_or (nat_le 64 (length paths)) PathsFull _ _ refl)
 
-    replaces : (b : Block) (paths : List WeightedHop) (reply : Reply) (o : Option (List WeightedHop)) → replaced (settled routes live) rows b paths reply o ≡ limited routes live rows (replaced placed rows b paths reply o)
+    replaces : (b : Block) (paths : List WeightedHop) (reply : Reply) (o : Option (List WeightedHop)) → replaced (settled live) rows b paths reply o ≡ limited live rows (replaced placed rows b paths reply o)
     replaces b paths reply None = refuses NotFound
     replaces b paths reply (Some old) = refl
 
-    shortens : (b : Block) (o : Option (List WeightedHop)) → shortened (settled routes live) rows b o ≡ limited routes live rows (shortened placed rows b o)
+    shortens : (b : Block) (o : Option (List WeightedHop)) → shortened (settled live) rows b o ≡ limited live rows (shortened placed rows b o)
     shortens b None = drops b
     shortens b (Some paths) = refl
 
-    deletes : (b : Block) (g : Option ℕ) (o : Option (List WeightedHop)) → deleted (settled routes live) rows b g o ≡ limited routes live rows (deleted placed rows b g o)
+    deletes : (b : Block) (g : Option ℕ) (o : Option (List WeightedHop)) → deleted (settled live) rows b g o ≡ limited live rows (deleted placed rows b g o)
     deletes b g None = refuses NotFound
     deletes b None (Some paths) = drops b
     deletes b (Some g) (Some paths) = or_refused (list_any (goes_by g) paths) NotFound _ _ (shortens b (paths_left (left_by g paths)))
 
-    pub tries : {w : _} (command : Command w) → apply_within routes live rows command ≡ tried routes live rows command
+    pub tries : {w : _} (command : Command w) → apply live rows command ≡ tried live rows command
     tries (Add prefix path) = adds prefix path (paths_at rows prefix)
     tries (Change prefix path) = replaces prefix (path ∷ []) _ (paths_at rows prefix)
     tries (Delete prefix gateway) = deletes prefix gateway (paths_at rows prefix)
@@ -116,13 +117,13 @@ module _ (routes live : ℕ) (rows : Table) where
     tries (Algo setting) = passes _ (omega arith) (omega arith)
 
 pub limits_are_tried : (w : ℕ) → LimitsAreTried w
-limits_are_tried w rows command is = tries 262144 2047 rows is command
+limits_are_tried w live rows command is = tries live rows is command
 
 pub tables_are_within : (w : ℕ) → TablesAreWithin w
-tables_are_within w plan c = go [] (take c plan) (record { room = omega arith; few = omega arith })
+tables_are_within w live plan c = go [] (take c plan.commands) (record { room = omega arith; few = omega arith })
   where
-    go : (rows : Table) (commands : List (Command w)) → IsWithin 262144 2047 rows → IsWithin 262144 2047 (fold (λ rs command. (apply rs command).table) rows commands)
+    go : (rows : Table) (commands : List (Command w)) → IsWithin live rows → IsWithin live (fold (λ rs command. (apply live rs command).table) rows commands)
     go rows [] is = is
     go rows (command ∷ commands) is =
-        go (apply rows command).table commands
-        (subst (λ (made : Outcome). IsWithin 262144 2047 made.table) (sym (tries 262144 2047 rows is command)) (limited_within 262144 2047 rows (unlimited rows command) is))
+        go (apply live rows command).table commands
+        (subst (λ (made : Outcome). IsWithin live made.table) (sym (tries live rows is command)) (limited_within live rows (unlimited rows command) is))

@@ -40,7 +40,7 @@ any-count {X} f (x ∷ xs) = ap (nat_lt 0) (sum_by-cons (λ y. cond (f y) 1 0) x
 any-sum : (a b : ℕ) → nat_lt 0 (a + b) ≡ (nat_lt 0 a || nat_lt 0 b)
 any-sum a b = grind (arith, nat_tests)
 
-any-filter : {X : Type 0} (f t : X → Bool) (xs : List X) → list_any f (filter t xs) ≡ list_any (λ x. t x && f x) xs
+pub any-filter : {X : Type 0} (f t : X → Bool) (xs : List X) → list_any f (filter t xs) ≡ list_any (λ x. t x && f x) xs
 any-filter f t [] = refl
 any-filter f t (x ∷ xs) =
     let ih = any-filter f t xs in
@@ -114,7 +114,7 @@ distinct-le cmp o exact xs ys all =
 abbrev pub Among : Table → Table → Type 0
 Among less rows = (f : List WeightedHop → Bool) → list_any f (values_of less) ≡ true → list_any f (values_of rows) ≡ true
 
-any-in_hops : (f : Hop → Bool) (lists : List (List WeightedHop)) → list_any f (hops_of lists) ≡ list_any (λ ps. list_any f (hops ps)) lists
+pub any-in_hops : (f : Hop → Bool) (lists : List (List WeightedHop)) → list_any f (hops_of lists) ≡ list_any (λ ps. list_any f (hops ps)) lists
 any-in_hops f [] = refl
 any-in_hops f (ps ∷ rest) = list_any-append f (hops ps) (hops_of rest) ∙ ap (λ b. list_any f (hops ps) || b) (any-in_hops f rest)
 

@@ -1,7 +1,7 @@
 -- Nexthops numbered by first appearance: what one more does to them.
 use Rattle.std.proofs.Common.{◌≡◌, ◌∙◌, ℕ, ◌+◌, ◌<◌, ◌≤◌, Bool, true, false, cond, not, ◌||◌, List, [], ◌∷◌, ◌++◌, Option, Some, None, length, refl, sym, ap, arith, rules, add-zero, length-append}
 use Rattle.std.specs.Prelude.{Contains, filter, is_some, IsSome, ◌↔◌}
-use Rattle.std.specs.List.{list_any, position_from, cons_option}
+use Rattle.std.specs.List.{list_any, position_from, cons_option, filter_map}
 use Rattle.std.specs.Ordering.{is_eq}
 use Rattle.std.specs.Map.{lookup}
 use Rattle.std.specs.BTreeMap.{insert_entry, is_at}
@@ -15,8 +15,9 @@ use Rattle.prefix_width.specs.Order.{hop_cmp}
 use Rattle.prefix_width.proofs.OrderLemmas.{hop_total, hop_exact}
 use Rattle.counted_map.proofs.CountMapLemmas.{eq_from_is_eq}
 use Rattle.rib_store.specs.declared.command.Command.{Command}
-use Rattle.rib_store.specs.declared.plan.TheConstants.{PLAN_MAX}
-use Rattle.rib_store.specs.Plan.{named_by, named, is_other, firsts, place_in, number_of, with_first, IsNumbering, IsPlan, IsWrongModule}
+use Rattle.rib_store.specs.Limits.{plan_max}
+use Rattle.rib_store.specs.Plan.{Planned, named_by, named, is_other, firsts, place_in, number_of, with_first, IsNumbering, IsPlan, IsWrongModule}
+use Rattle.rib_store.specs.Weights.{IsWeighted}
 
 -- nexthops that the order finds the same are one
 pub one_hop : (h k : Hop) → is_eq (hop_cmp h k) ≡ true → h ≡ k
@@ -128,35 +129,36 @@ true_from_some None h = absurd (search rules)
 true_from_some (Some n) h = refl
 
 module _ {w : ℕ} where
-  length-named : (commands : List (Command w)) → length (named commands) ≤ length commands
+  length-named : (commands : List (Command w)) → length (filter_map named_by commands) ≤ length commands
   length-named [] = omega arith
   length-named (c ∷ cs) =
       let ih = length-named cs in
-      let more = length-cons_option (named_by c) (named cs) in
+      let more = length-cons_option (named_by c) (filter_map named_by cs) in
       omega arith
 
   -- a plan names no more nexthops than it has commands
-  pub hops_within : (commands : List (Command w)) (hops : List Hop) (numbers : List (Hop × ℕ)) → IsPlan commands hops numbers → length hops ≤ length commands
-  hops_within commands hops numbers is =
-      let e : length hops ≡ length (firsts (named commands)) = ap length is.order in
-      let f = length-firsts (named commands) in
-      let n = length-named commands in
+  pub hops_within : (plan : Planned w) (hops : List Hop) (numbers : List (Hop × ℕ)) → IsPlan plan hops numbers → length hops ≤ length plan.commands
+  hops_within plan hops numbers is =
+      let e : length hops ≡ length (firsts (named plan)) = ap length is.order in
+      let f = length-firsts (named plan) in
+      let n = length-named plan.commands in
       omega arith
 
   -- one command more makes one first more, if it names a new nexthop
-  pub firsts-named-append : (commands : List (Command w)) (c : Command w) → firsts (named (commands ++ c ∷ [])) ≡ with_first (firsts (named commands)) (named_by c)
+  firsts-named-append : (commands : List (Command w)) (c : Command w) → firsts (filter_map named_by (commands ++ c ∷ [])) ≡ with_first (firsts (filter_map named_by commands)) (named_by c)
   firsts-named-append commands c = ap firsts (filter_map-append named_by commands (c ∷ [])) ∙ more (named_by c)
     where
-      more : (o : Option Hop) → firsts (named commands ++ cons_option o []) ≡ with_first (firsts (named commands)) o
-      more None = ap firsts (append-nil (named commands))
-      more (Some h) = firsts-append (named commands) h
+      more : (o : Option Hop) → firsts (filter_map named_by commands ++ cons_option o []) ≡ with_first (firsts (filter_map named_by commands)) o
+      more None = ap firsts (append-nil (filter_map named_by commands))
+      more (Some h) = firsts-append (filter_map named_by commands) h
 
   -- a plan with one command more
-  pub IsPlan-append : (commands commands' : List (Command w)) (hops hops' : List Hop) (numbers numbers' : List (Hop × ℕ)) (c : Command w) → IsPlan commands hops numbers → length commands < PLAN_MAX → ¬ (IsWrongModule c) → commands' ≡ commands ++ c ∷ [] → hops' ≡ with_first hops (named_by c) → IsNumbering hops' numbers' → IsPlan commands' hops' numbers'
-  IsPlan-append commands commands' hops hops' numbers numbers' c is room right items e numbering = record {
-    most = let more : length commands' ≡ length (commands ++ c ∷ []) = ap length items in omega (arith, length-append {A = Command w});
-    modules = All-same allowed commands' (commands ++ c ∷ []) items (All-push allowed commands c is.modules right);
-    order = e ∙ ap (λ hs. with_first hs (named_by c)) is.order ∙ sym (firsts-named-append commands c) ∙ ap (λ cs. firsts (named cs)) (sym items);
+  pub IsPlan-with : (plan plan' : Planned w) (hops hops' : List Hop) (numbers numbers' : List (Hop × ℕ)) (c : Command w) → IsPlan plan hops numbers → length plan.commands < plan_max → ¬ (IsWrongModule c) → IsWeighted c → plan'.commands ≡ plan.commands ++ c ∷ [] → hops' ≡ with_first hops (named_by c) → IsNumbering hops' numbers' → IsPlan plan' hops' numbers'
+  IsPlan-with plan plan' hops hops' numbers numbers' c is room right weighted items e numbering = record {
+    most = let more : length plan'.commands ≡ length (plan.commands ++ c ∷ []) = ap length items in omega (arith, length-append {A = Command w});
+    modules = All-same allowed plan'.commands (plan.commands ++ c ∷ []) items (All-push allowed plan.commands c is.modules right);
+    weights = All-same IsWeighted plan'.commands (plan.commands ++ c ∷ []) items (All-push IsWeighted plan.commands c is.weights weighted);
+    order = e ∙ ap (λ hs. with_first hs (named_by c)) is.order ∙ sym (firsts-named-append plan.commands c) ∙ ap (λ cs. firsts (filter_map named_by cs)) (sym items);
     numbering = numbering;
   }
     where
@@ -164,10 +166,10 @@ module _ {w : ℕ} where
       allowed command = ¬ (IsWrongModule command)
 
   -- a nexthop has a number where a command names it
-  numbered-any : (plan : List (Command w)) (h : Hop) → is_some (number_of plan h) ≡ list_any (is_at (hop_cmp h)) (named plan)
+  numbered-any : (plan : Planned w) (h : Hop) → is_some (number_of plan h) ≡ list_any (is_at (hop_cmp h)) (named plan)
   numbered-any plan h = placed-any (is_at (hop_cmp h)) 1 (firsts (named plan)) ∙ any-firsts (named plan) h
 
-  pub numbered_if_named : (plan : List (Command w)) (h : Hop) (o : Option ℕ) → o ≡ number_of plan h → IsSome o ↔ Contains (named plan) h
+  pub numbered_if_named : (plan : Planned w) (h : Hop) (o : Option ℕ) → o ≡ number_of plan h → IsSome o ↔ Contains (named plan) h
   numbered_if_named plan h o e = (
     λ s. Contains-from_any one_hop h (named plan) (sym (numbered-any plan h) ∙ sym (ap is_some e) ∙ true_from_some o s),
     λ c. some_from_true o (ap is_some e ∙ numbered-any plan h ∙ list_any-from_Contains (eq_by_cmp_equiv hop_total) h (named plan) c),

@@ -13,12 +13,14 @@ use Rattle.std.specs.BTreeMap.{is_at}
 use Rattle.std.proofs.lemmas.List.Sums.{sum_by-cons, sum_by-append}
 use Rattle.std.proofs.lemmas.Map.Entries.{sum_by-insert_entry, sum_by-remove_entry, length-values_of}
 use Rattle.std.proofs.lemmas.Map.Views.{All-values-insert_entry, All-map-remove_entry, IfSome-lookup_from_All}
+use Rattle.prefix_width.specs.Limits.{AreTargets}
 use Rattle.prefix_width.specs.Prefix.{Block}
 use Rattle.prefix_width.specs.Path.{WeightedHop}
 use Rattle.prefix_width.specs.Order.{block_cmp}
 use Rattle.nhgrp_slots.specs.Order.{paths_cmp}
 use Rattle.nhgrp_slots.specs.PathList.{IsPathList, has_via}
 use Rattle.rib_store.specs.Uses.{Uses, with_paths, without_paths, without_old, live_in, AreCounts, HasPaths, HasOld, HasRoom, IsCounted}
+use Rattle.rib_store.specs.Limits.{routes_max}
 use Rattle.rib_store.specs.Live.{is_group}
 use Rattle.nhgrp_slots.specs.PathList.{names}
 use Rattle.rib_store.specs.Table.{Table, paths_at, put_row, drop_row, live_count, settled, refused}
@@ -28,11 +30,11 @@ use Rattle.rib_store.proofs.CountedLemmas.{IsCounted-with, IsCounted-without, Ar
 use Rattle.rib_store.proofs.LiveLemmas.{counted_live}
 
 -- the counts of a table have room
-pub rib_room : (routes live : ℕ) (rows : Table) (u : Uses) → routes + live < 1000000 → IsRib routes live rows u → HasRoom u
-rib_room routes live rows u low rib = record {
-  nhops = λ h. let a = few_hops (values_of rows) u h rib.counted in let l = length-values_of rows in let b = rib.few in let d = rib.room in omega arith;
-  groups = λ g. let a = few_groups (values_of rows) u g rib.counted in let l = length-values_of rows in let d = rib.room in omega arith;
-  few = let b = rib.few in omega arith;
+pub rib_room : (live : ℕ) (rows : Table) (u : Uses) → IsRib live rows u → HasRoom u
+rib_room live rows u rib = record {
+  nhops = λ h. let a = few_hops (values_of rows) u h rib.counted in let l = length-values_of rows in let b = rib.few in let d = rib.room in let m = rib.most in omega arith;
+  groups = λ g. let a = few_groups (values_of rows) u g rib.counted in let l = length-values_of rows in let d = rib.room in let m = rib.most in omega arith;
+  few = let b = rib.few in let m = rib.most in omega arith;
 }
 
 -- what is known once a route of the new paths is counted, and the old one not any more
@@ -42,8 +44,8 @@ pub record IsSettled (rows next : Table) (u : Uses) (o : Option (List WeightedHo
   pub counted : IsCounted (values_of next) (without_old u o)
   pub live : live_in (without_old u o) ≡ live_count next
 
-pub settles : (routes live : ℕ) (rows : Table) (u : Uses) (b : Block) (new : List WeightedHop) (o : Option (List WeightedHop)) → o ≡ paths_at rows b → IsStrictlySortedBy block_cmp (keys_of rows) → IsRib routes live rows u → AreCounts u → IsPathList new → IsSettled rows (put_row rows b new) (with_paths u new) o
-settles routes live rows u b new None e up rib are is =
+pub settles : (live : ℕ) (rows : Table) (u : Uses) (b : Block) (new : List WeightedHop) (o : Option (List WeightedHop)) → o ≡ paths_at rows b → IsStrictlySortedBy block_cmp (keys_of rows) → IsRib live rows u → AreCounts u → IsPathList new → IsSettled rows (put_row rows b new) (with_paths u new) o
+settles live rows u b new None e up rib are is =
     let more = AreCounts-with u new are in
     let counted = IsCounted-with (values_of rows) (values_of (put_row rows b new)) u new rib.counted are is (λ f. sums f) in
     record { old = tt; counts = more; counted = counted; live = counted_live _ _ counted more }
@@ -53,7 +55,7 @@ settles routes live rows u b new None e up rib are is =
         let s = sum_by-insert_entry f block_total rows b new up in
         let z : unwrap_or (option_map f (paths_at rows b)) 0 ≡ 0 = ap (λ (x : Option (List WeightedHop)). unwrap_or (option_map f x) 0) (sym e) in
         omega arith
-settles routes live rows u b new (Some ps) e up rib are is =
+settles live rows u b new (Some ps) e up rib are is =
     let more = AreCounts-with u new are in
     let first = IsCounted-with (values_of rows) (new ∷ values_of rows) u new rib.counted are is (λ f. sum_by-cons f new (values_of rows) ∙ add_comm (f new) (sum_by f (values_of rows))) in
     let old : IsPathList ps = subst (λ (x : Option (List WeightedHop)). IfSome x IsPathList) (sym e) (IfSome-lookup_from_All IsPathList (is_at (block_cmp b)) rows rib.lists) in
@@ -98,40 +100,41 @@ length_missing rows b ps n e h up = go (paths_at rows b) refl h
     go (Some qs) f h = cc
 
 -- the three outcomes
-pub table_full : (routes live : ℕ) (rows : Table) (b : Block) (ps : List WeightedHop) (reply : Reply) (n : ℕ) → n ≡ length (put_row rows b ps) → routes < n → settled routes live rows b ps reply ≡ refused rows TableFull
-table_full routes live rows b ps reply n e h =
-    let t : nat_lt routes (length (put_row rows b ps)) ≡ true = grind (arith, nat_tests) in
+pub table_full : (live : ℕ) (rows : Table) (b : Block) (ps : List WeightedHop) (reply : Reply) (n : ℕ) → n ≡ length (put_row rows b ps) → routes_max < n → settled live rows b ps reply ≡ refused rows TableFull
+table_full live rows b ps reply n e h =
+    let t : nat_lt routes_max (length (put_row rows b ps)) ≡ true = grind (arith, nat_tests) in
     rw t refl
 
-pub targets_full : (routes live : ℕ) (rows : Table) (b : Block) (ps : List WeightedHop) (reply : Reply) (n m : ℕ) → n ≡ length (put_row rows b ps) → n ≤ routes → m ≡ live_count (put_row rows b ps) → live < m → settled routes live rows b ps reply ≡ refused rows TargetsFull
-targets_full routes live rows b ps reply n m e h f k =
-    let t : nat_lt routes (length (put_row rows b ps)) ≡ false = grind (arith, nat_tests) in
+pub targets_full : (live : ℕ) (rows : Table) (b : Block) (ps : List WeightedHop) (reply : Reply) (n m : ℕ) → n ≡ length (put_row rows b ps) → n ≤ routes_max → m ≡ live_count (put_row rows b ps) → live < m → settled live rows b ps reply ≡ refused rows TargetsFull
+targets_full live rows b ps reply n m e h f k =
+    let t : nat_lt routes_max (length (put_row rows b ps)) ≡ false = grind (arith, nat_tests) in
     let d : nat_lt live (live_count (put_row rows b ps)) ≡ true = subst (λ x. nat_lt live x ≡ true) f (grind (arith, nat_tests)) in
     rw (t, d) refl
 
-pub put_in : (routes live : ℕ) (rows : Table) (b : Block) (ps : List WeightedHop) (reply : Reply) (n m : ℕ) → n ≡ length (put_row rows b ps) → n ≤ routes → m ≡ live_count (put_row rows b ps) → m ≤ live → settled routes live rows b ps reply ≡ record { table = put_row rows b ps; reply = reply }
-put_in routes live rows b ps reply n m e h f k =
-    let t : nat_lt routes (length (put_row rows b ps)) ≡ false = grind (arith, nat_tests) in
+pub put_in : (live : ℕ) (rows : Table) (b : Block) (ps : List WeightedHop) (reply : Reply) (n m : ℕ) → n ≡ length (put_row rows b ps) → n ≤ routes_max → m ≡ live_count (put_row rows b ps) → m ≤ live → settled live rows b ps reply ≡ record { table = put_row rows b ps; reply = reply }
+put_in live rows b ps reply n m e h f k =
+    let t : nat_lt routes_max (length (put_row rows b ps)) ≡ false = grind (arith, nat_tests) in
     let d : nat_lt live (live_count (put_row rows b ps)) ≡ false = subst (λ x. nat_lt live x ≡ false) f (grind (arith, nat_tests)) in
     rw (t, d) refl
 
-pub rib_next : (routes live : ℕ) (rows next : Table) (u v : Uses) (b : Block) (ps : List WeightedHop) (o : Option (List WeightedHop)) (n m : ℕ) → IsSettled rows (put_row rows b ps) u o → next ≡ put_row rows b ps → v ≡ without_old u o → n ≡ length (put_row rows b ps) → n ≤ routes → m ≡ live_in (without_old u o) → m ≤ live → IsPathList ps → All IsPathList (values_of rows) → IsRib routes live next v
-rib_next routes live rows next u v b ps o n m s e f g h k l is all =
-    subst (λ (x : Table). IsRib routes live x v) (sym e)
-    (subst (λ (x : Uses). IsRib routes live (put_row rows b ps) x) (sym f) (record {
+pub rib_next : (live : ℕ) (rows next : Table) (u v : Uses) (b : Block) (ps : List WeightedHop) (o : Option (List WeightedHop)) (n m : ℕ) → IsSettled rows (put_row rows b ps) u o → next ≡ put_row rows b ps → v ≡ without_old u o → n ≡ length (put_row rows b ps) → n ≤ routes_max → m ≡ live_in (without_old u o) → m ≤ live → AreTargets live → IsPathList ps → All IsPathList (values_of rows) → IsRib live next v
+rib_next live rows next u v b ps o n m s e f g h k l most is all =
+    subst (λ (x : Table). IsRib live x v) (sym e)
+    (subst (λ (x : Uses). IsRib live (put_row rows b ps) x) (sym f) (record {
       counted = s.counted;
       lists = All-values-insert_entry block_cmp b ps IsPathList rows all is;
       room = omega arith;
       few = omega arith;
+      most = most;
     }))
 
 -- a route goes
-pub record IsDropped (routes live : ℕ) (rows : Table) (b : Block) (u : Uses) (ps : List WeightedHop) : Type 0 where
+pub record IsDropped (live : ℕ) (rows : Table) (b : Block) (u : Uses) (ps : List WeightedHop) : Type 0 where
   pub has : HasPaths u ps
-  pub rib : IsRib routes live (drop_row rows b) (without_paths u ps)
+  pub rib : IsRib live (drop_row rows b) (without_paths u ps)
 
-pub drops_route : (routes live : ℕ) (rows : Table) (u : Uses) (b : Block) (ps : List WeightedHop) → Some ps ≡ paths_at rows b → IsRib routes live rows u → AreCounts u → IsDropped routes live rows b u ps
-drops_route routes live rows u b ps e rib are =
+pub drops_route : (live : ℕ) (rows : Table) (u : Uses) (b : Block) (ps : List WeightedHop) → Some ps ≡ paths_at rows b → IsRib live rows u → AreCounts u → IsDropped live rows b u ps
+drops_route live rows u b ps e rib are =
     let old : IsPathList ps = subst (λ (x : Option (List WeightedHop)). IfSome x IsPathList) (sym e) (IfSome-lookup_from_All IsPathList (is_at (block_cmp b)) rows rib.lists) in
     let has = HasPaths-from (values_of rows) (values_of (drop_row rows b)) u ps rib.counted old (λ f. sums f) in
     let l = live_in-without u ps are old has in
@@ -149,6 +152,7 @@ drops_route routes live rows u b ps e rib are =
         lists = All-map-remove_entry (is_at (block_cmp b)) (λ e. e.1) IsPathList rows rib.lists;
         room = omega arith;
         few = omega arith;
+        most = rib.most;
       };
     }
   where
@@ -195,8 +199,8 @@ both_sum f rows =
           | false ↦ omega arith
         ]
 
-pub flush_starts : (routes live : ℕ) (rows : Table) (u : Uses) → IsRib routes live rows u → AreCounts u → Flushing live rows rows u
-flush_starts routes live rows u rib are = record { counts = are; counted = same_sums (values_of rows) (gone rows ++ kept rows) u (λ f. both_sum f rows) rib.counted; few = rib.few; lists = rib.lists }
+pub flush_starts : (live : ℕ) (rows : Table) (u : Uses) → IsRib live rows u → AreCounts u → Flushing live rows rows u
+flush_starts live rows u rib are = record { counts = are; counted = same_sums (values_of rows) (gone rows ++ kept rows) u (λ f. both_sum f rows) rib.counted; few = rib.few; lists = rib.lists }
 
 pub flush_has : (live : ℕ) (left rest all : Table) (b : Block) (ps : List WeightedHop) (u : Uses) → left ≡ (b, ps) ∷ rest → has_via ps ≡ true → Flushing live left all u → HasPaths u ps × Flushing live rest all (without_paths u ps)
 flush_has live left rest all b ps u e t fl =
@@ -238,15 +242,15 @@ filter-le t (r ∷ rs) =
     let ih = filter-le t rs in
     elim (t r) as (λ b. length (cond b (r ∷ filter t rs) (filter t rs)) ≤ length (r ∷ rs)) [ true ↦ omega arith | false ↦ omega arith ]
 
-all-kept : (t : Block × List WeightedHop → Bool) (rows : Table) → All IsPathList (values_of rows) → All IsPathList (values_of (filter t rows))
-all-kept t [] all = all
-all-kept t (r ∷ rs) all =
-    let ih = all-kept t rs (All-tail IsPathList r.1 (values_of rs) all) in
-    let p = All-head IsPathList r.1 (values_of rs) all in
-    elim (t r) as (λ b. All IsPathList (values_of (cond b (r ∷ filter t rs) (filter t rs)))) [ true ↦ All-cons IsPathList r.1 (values_of (filter t rs)) p ih | false ↦ ih ]
+pub all-kept : (P : List WeightedHop → Type 0) (t : Block × List WeightedHop → Bool) (rows : Table) → All P (values_of rows) → All P (values_of (filter t rows))
+all-kept P t [] all = all
+all-kept P t (r ∷ rs) all =
+    let ih = all-kept P t rs (All-tail P r.1 (values_of rs) all) in
+    let p = All-head P r.1 (values_of rs) all in
+    elim (t r) as (λ b. All P (values_of (cond b (r ∷ filter t rs) (filter t rs)))) [ true ↦ All-cons P r.1 (values_of (filter t rs)) p ih | false ↦ ih ]
 
-pub flush_ends : (routes live : ℕ) (rows next : Table) (u v : Uses) → next ≡ filter (λ r. not (has_via r.1)) rows → Flushing live [] rows v → IsRib routes live rows u → IsRib routes live next v
-flush_ends routes live rows next u v e fl rib =
+pub flush_ends : (live : ℕ) (rows next : Table) (u v : Uses) → next ≡ filter (λ r. not (has_via r.1)) rows → Flushing live [] rows v → IsRib live rows u → IsRib live next v
+flush_ends live rows next u v e fl rib =
     let n = filter-le (λ r. not (has_via r.1)) rows in
     let room = rib.room in
-    subst (λ (x : Table). IsRib routes live x v) (sym e) (record { counted = fl.counted; lists = all-kept (λ r. not (has_via r.1)) rows rib.lists; room = omega arith; few = fl.few })
+    subst (λ (x : Table). IsRib live x v) (sym e) (record { counted = fl.counted; lists = all-kept IsPathList (λ r. not (has_via r.1)) rows rib.lists; room = omega arith; few = fl.few; most = rib.most })

@@ -1,5 +1,5 @@
 -- What a row more does to the table, and what a command more does to the table of a plan.
-use Rattle.std.proofs.Common.{◌≡◌, ◌∙◌, ℕ, ◌+◌, ◌≤◌, Bool, true, false, cond, List, [], ◌∷◌, ◌++◌, Option, Some, None, length, refl, ap, arith}
+use Rattle.std.proofs.Common.{◌≡◌, ◌∙◌, ℕ, ◌+◌, ◌≤◌, Bool, true, false, cond, List, [], ◌∷◌, ◌++◌, Option, Some, None, length, take, refl, ap, arith}
 use Rattle.std.specs.Ordering.{is_eq, match_ordering}
 use Rattle.std.specs.declared.cmp.Ordering.TheVariants.{Less, Equal, Greater}
 use Rattle.std.specs.List.{slice_get}
@@ -13,6 +13,7 @@ use Rattle.prefix_width.specs.Order.{block_cmp}
 use Rattle.std.specs.Cmp.{IsTotalOrder}
 use Rattle.std.proofs.lemmas.Cmp.{nat_cmp_total, on_total, then_total}
 use Rattle.rib_store.specs.declared.command.Command.{Command}
+use Rattle.rib_store.specs.Plan.{Planned}
 use Rattle.rib_store.specs.Table.{Table, paths_at, put_row, apply, table_of, table_after}
 
 -- prefixes are in a total order
@@ -48,17 +49,17 @@ length-put_row (row ∷ rows) b paths =
       | Greater ↦ omega arith
     ]
 
-module _ {w : _} where
+module _ {w : _} (live : ℕ) where
   -- commands put behind a plan change nothing before them
-  pub table_after-append : (plan more : List (Command w)) (c : ℕ) → c ≤ length plan → table_after (plan ++ more) c ≡ table_after plan c
-  table_after-append plan more c h = ap table_of (take-append-le c plan more h)
+  pub table_after-with : (plan more : Planned w) (rest : List (Command w)) (c : ℕ) → more.commands ≡ plan.commands ++ rest → c ≤ length plan.commands → table_after live more c ≡ table_after live plan c
+  table_after-with plan more rest c e h = ap {B = Table} (λ commands. table_of live (record { commands = commands })) (ap (take c) e ∙ take-append-le c plan.commands rest h)
 
   -- the table after all commands
-  pub table_after-length : (plan : List (Command w)) → table_after plan (length plan) ≡ table_of plan
-  table_after-length plan = ap table_of (take-length plan)
+  pub table_after-length : (plan : Planned w) → table_after live plan (length plan.commands) ≡ table_of live plan
+  table_after-length plan = ap {B = Table} (λ commands. table_of live (record { commands = commands })) (take-length plan.commands)
 
   -- the table after one command more
-  pub table_after_more : (plan : List (Command w)) (pos : ℕ) (c : Command w) → slice_get plan pos ≡ Some c → table_after plan (pos + 1) ≡ (apply (table_after plan pos) c).table
+  pub table_after_more : (plan : Planned w) (pos : ℕ) (c : Command w) → slice_get plan.commands pos ≡ Some c → table_after live plan (pos + 1) ≡ (apply live (table_after live plan pos) c).table
   table_after_more plan pos c e =
-      fold_more (λ rows command. (apply rows command).table) [] plan pos c (slice_get_within plan pos c e)
-      ∙ ap (λ d. (apply (table_after plan pos) d).table) (get_or_from_slice_get plan pos c c e)
+      fold_more (λ rows command. (apply live rows command).table) [] plan.commands pos c (slice_get_within plan.commands pos c e)
+      ∙ ap (λ d. (apply live (table_after live plan pos) d).table) (get_or_from_slice_get plan.commands pos c c e)

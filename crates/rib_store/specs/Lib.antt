@@ -2,7 +2,10 @@ pub mod Answer
 pub mod Laws
 pub mod Limits
 pub mod Live
+pub mod Memory
 pub mod Plan
 pub mod Table
 pub mod Targets
+pub mod Tried
 pub mod Uses
+pub mod Weights

@@ -1,17 +1,10 @@
--- Limits: each command tried against both of them.
-use Rattle.std.specs.Prelude.{ℕ, ◌≤◌, length}
-use Rattle.rib_store.specs.declared.command.Command.{Command}
-use Rattle.rib_store.specs.Table.{Table, Outcome, placed, limited, apply_by, live_count}
+-- Limits of a table and of a plan.
+use Rattle.std.specs.Prelude.{ℕ}
 
--- a table of at most so many routes and so many live targets
-pub record IsWithin (routes live : ℕ) (rows : Table) : Type 0 where
-  pub room : length rows ≤ routes
-  pub few : live_count rows ≤ live
+-- how many routes a table may have
+abbrev pub routes_max : ℕ
+routes_max = 262144
 
--- what a command does where nothing limits the table
-abbrev pub unlimited : {w : _} → Table → Command w → Outcome
-unlimited rows command = apply_by placed rows command
-
--- the same, with both limits tried behind it, whatever the command asks
-abbrev pub tried : {w : _} → ℕ → ℕ → Table → Command w → Outcome
-tried routes live rows command = limited routes live rows (unlimited rows command)
+-- how many commands a plan may have
+abbrev pub plan_max : ℕ
+plan_max = 1048576

@@ -1,5 +1,5 @@
--- A plan: a list of commands, and the nexthops that it names, numbered by first appearance.
-use Rattle.std.specs.Prelude.{◌≡◌, ◌≢◌, ℕ, ◌≤◌, Bool, true, false, not, IsTrue, List, [], ◌∷◌, ◌++◌, Option, Some, None, is_some, length, filter, All, if◌then◌else◌}
+-- A plan: commands in their order, and the nexthops that it names, numbered by first appearance.
+use Rattle.std.specs.Prelude.{◌≡◌, ◌≢◌, ℕ, ◌≤◌, Bool, true, false, not, IsTrue, List, [], ◌∷◌, ◌++◌, Option, Some, None, is_some, length, take, filter, All, if◌then◌else◌}
 use Rattle.std.specs.List.{filter_map, position_from}
 use Rattle.std.specs.Ordering.{is_eq}
 use Rattle.std.specs.Map.{lookup}
@@ -10,7 +10,20 @@ use Rattle.prefix_width.specs.declared.module.Kind.TheVariants.{Dxr}
 use Rattle.prefix_width.specs.declared.module.Setting.TheVariants.{Fixed}
 use Rattle.rib_store.specs.declared.command.Command.{Command}
 use Rattle.rib_store.specs.declared.command.Command.TheVariants.{Add, Change, Algo}
-use Rattle.rib_store.specs.declared.plan.TheConstants.{PLAN_MAX}
+use Rattle.rib_store.specs.Limits.{plan_max}
+use Rattle.rib_store.specs.Weights.{IsWeighted}
+
+-- what a plan is seen as
+pub record Planned (w : ℕ) : Type 0 where
+  pub commands : List (Command w)
+
+-- the plan of the first c commands
+abbrev pub plan_until : {w : _} → ℕ → Planned w → Planned w
+plan_until c plan = record plan { commands = take c plan.commands }
+
+-- the plan with one command more behind the others
+abbrev pub plan_with : {w : _} → Planned w → Command w → Planned w
+plan_with plan command = record plan { commands = plan.commands ++ command ∷ [] }
 
 -- the nexthop that an `Add` or a `Change` names
 abbrev pub named_by : {w : _} → Command w → Option Hop
@@ -19,8 +32,8 @@ named_by (Change prefix path) = Some path.nexthop
 named_by command = None
 
 -- the nexthops that the commands name, in their order
-abbrev pub named : {w : _} → List (Command w) → List Hop
-named commands = filter_map named_by commands
+abbrev pub named : {w : _} → Planned w → List Hop
+named plan = filter_map named_by plan.commands
 
 -- whether the second nexthop is not the same as the first
 abbrev pub is_other : Hop → Hop → Bool
@@ -36,7 +49,7 @@ abbrev pub place_in : List Hop → Hop → Option ℕ
 place_in hops h = position_from (λ k. is_eq (hop_cmp h k)) 1 hops
 
 -- the number of a nexthop: its place among those that the plan names
-abbrev pub number_of : {w : _} → List (Command w) → Hop → Option ℕ
+abbrev pub number_of : {w : _} → Planned w → Hop → Option ℕ
 number_of plan h = place_in (firsts (named plan)) h
 
 -- the list with the nexthop, if there is one, behind it where it is not there yet
@@ -57,9 +70,10 @@ IsWrongModule {w} command = IsTrue (sets_dxr command) × (w ≢ 32)
 abbrev pub IsNumbering : List Hop → List (Hop × ℕ) → Type 0
 IsNumbering hops numbers = (h : Hop) → lookup (is_at (hop_cmp h)) numbers ≡ place_in hops h
 
--- the commands of a plan, the nexthops that they name, and the map of their numbers
-pub record IsPlan {w : ℕ} (commands : List (Command w)) (hops : List Hop) (numbers : List (Hop × ℕ)) : Type 0 where
-  pub most : length commands ≤ PLAN_MAX
-  pub modules : All (λ command. ¬ (IsWrongModule command)) commands
-  pub order : hops ≡ firsts (named commands)
+-- a plan, the nexthops that its commands name, and the map of their numbers
+pub record IsPlan {w : ℕ} (plan : Planned w) (hops : List Hop) (numbers : List (Hop × ℕ)) : Type 0 where
+  pub most : length plan.commands ≤ plan_max
+  pub modules : All (λ command. ¬ (IsWrongModule command)) plan.commands
+  pub weights : All IsWeighted plan.commands
+  pub order : hops ≡ firsts (named plan)
   pub numbering : IsNumbering hops numbers

@@ -1,31 +1,33 @@
 -- The table, and what commands do to it: said on the list of its rows.
-use Rattle.std.specs.Prelude.{ℕ, ◌+◌, ◌-◌, nat_le, nat_lt, List, [], ◌∷◌, length, take, fold, filter, not, Option, Some, None, if◌then◌else◌}
+use Rattle.std.specs.Prelude.{ℕ, ◌+◌, ◌-◌, nat_le, nat_lt, List, [], ◌∷◌, length, All, fold, filter, not, Option, Some, None, if◌then◌else◌}
 use Rattle.std.specs.List.{list_any}
-use Rattle.std.specs.Map.{lookup, remove_entry, values_of}
+use Rattle.std.specs.List.Sorted.{IsStrictlySortedBy}
+use Rattle.std.specs.Map.{lookup, remove_entry, keys_of, values_of}
 use Rattle.std.specs.BTreeMap.{insert_entry, is_at}
 use Rattle.prefix_width.specs.Prefix.{Block}
 use Rattle.prefix_width.specs.Path.{WeightedHop}
 use Rattle.prefix_width.specs.Order.{block_cmp}
-use Rattle.nhgrp_slots.specs.PathList.{put_path, clashes, goes_by, has_via, left_by, paths_left}
+use Rattle.nhgrp_slots.specs.PathList.{PathList, IsPathList, put_path, clashes, goes_by, has_via, left_by, paths_left}
+use Rattle.rib_store.specs.Limits.{routes_max}
 use Rattle.rib_store.specs.Live.{live_hops, live_groups}
+use Rattle.rib_store.specs.Plan.{Planned, plan_until}
 use Rattle.rib_store.specs.declared.command.Command.{Command}
 use Rattle.rib_store.specs.declared.command.Command.TheVariants.{Add, Change, Delete, Flush, Tick, Sync, Algo}
 use Rattle.rib_store.specs.declared.command.Reply.{Reply}
 use Rattle.rib_store.specs.declared.command.Reply.TheVariants.{Added, Joined, Changed, Deleted, Flushed, Nothing, Refused}
 use Rattle.rib_store.specs.declared.command.Refusal.{Refusal}
 use Rattle.rib_store.specs.declared.command.Refusal.TheVariants.{Exists, NotFound, PathsFull, TableFull, TargetsFull}
-use Rattle.rib_store.specs.declared.rib.TheConstants.{ROUTES_MAX, TARGETS_MAX}
 
 -- rows of prefix and paths, in prefix order, one row a prefix
 abbrev pub Table : Type 0
-Table = List (Block × List WeightedHop)
+Table = List (Block × PathList)
 
 -- the paths of a prefix's row, if it has one
-abbrev pub paths_at : Table → Block → Option (List WeightedHop)
+abbrev pub paths_at : Table → Block → Option (PathList)
 paths_at rows b = lookup (is_at (block_cmp b)) rows
 
 -- the table with these paths as the prefix's row, put in its place
-abbrev pub put_row : Table → Block → List WeightedHop → Table
+abbrev pub put_row : Table → Block → PathList → Table
 put_row rows b paths = insert_entry block_cmp rows b paths
 
 -- the table without the prefix's row
@@ -49,31 +51,31 @@ pub record Outcome : Type 0 where
 abbrev pub refused : Table → Refusal → Outcome
 refused rows why = record { table = rows; reply = Refused why }
 
--- what was made of these rows, unless it has too many routes or too many live targets
-abbrev pub limited : ℕ → ℕ → Table → Outcome → Outcome
-limited routes live rows made =
-    if nat_lt routes (length made.table) then refused rows TableFull
+-- what was made of these rows, unless it has too many routes or more than so many live targets
+abbrev pub limited : ℕ → Table → Outcome → Outcome
+limited live rows made =
+    if nat_lt routes_max (length made.table) then refused rows TableFull
     else if nat_lt live (live_count made.table) then refused rows TargetsFull
     else made
 
 -- what comes of paths that are to be the prefix's row
 abbrev pub Settling : Type 0
-Settling = Table → Block → List WeightedHop → Reply → Outcome
+Settling = Table → Block → PathList → Reply → Outcome
 
 -- they are its row
 abbrev pub placed : Settling
 placed rows b paths reply = record { table = put_row rows b paths; reply = reply }
 
--- they are its row, unless there would then be too many routes or too many live targets
-abbrev pub settled : ℕ → ℕ → Settling
-settled routes live rows b paths reply = limited routes live rows (placed rows b paths reply)
+-- they are its row, unless there would then be too many routes or more than so many live targets
+abbrev pub settled : ℕ → Settling
+settled live rows b paths reply = limited live rows (placed rows b paths reply)
 
 -- the prefix's row is gone
 abbrev pub dropped : Table → Block → Outcome
 dropped rows b = record { table = drop_row rows b; reply = Deleted }
 
 -- `add`, where these are the paths of the prefix: a new row, or one path more in its place
-abbrev pub added : Settling → Table → Block → WeightedHop → Option (List WeightedHop) → Outcome
+abbrev pub added : Settling → Table → Block → WeightedHop → Option (PathList) → Outcome
 added settle rows b p None = settle rows b (p ∷ []) Added
 added settle rows b p (Some paths) =
     if clashes paths p then refused rows Exists
@@ -81,21 +83,21 @@ added settle rows b p (Some paths) =
     else settle rows b (put_path paths p) Joined
 
 -- these paths in place of those of the prefix, where it has a row
-abbrev pub replaced : Settling → Table → Block → List WeightedHop → Reply → Option (List WeightedHop) → Outcome
+abbrev pub replaced : Settling → Table → Block → PathList → Reply → Option (PathList) → Outcome
 replaced settle rows b paths reply None = refused rows NotFound
 replaced settle rows b paths reply (Some old) = settle rows b paths reply
 
 -- `change`: the one path in place of those before
-abbrev pub changed : Settling → Table → Block → WeightedHop → Option (List WeightedHop) → Outcome
+abbrev pub changed : Settling → Table → Block → WeightedHop → Option (PathList) → Outcome
 changed settle rows b p old = replaced settle rows b (p ∷ []) Changed old
 
 -- the paths that are left are the prefix's row, and the row is gone where none is left
-abbrev pub shortened : Settling → Table → Block → Option (List WeightedHop) → Outcome
+abbrev pub shortened : Settling → Table → Block → Option (PathList) → Outcome
 shortened settle rows b None = dropped rows b
 shortened settle rows b (Some paths) = settle rows b paths Deleted
 
 -- `delete`: the whole row, or its paths by the gateway
-abbrev pub deleted : Settling → Table → Block → Option ℕ → Option (List WeightedHop) → Outcome
+abbrev pub deleted : Settling → Table → Block → Option ℕ → Option (PathList) → Outcome
 deleted settle rows b gateway None = refused rows NotFound
 deleted settle rows b None (Some paths) = dropped rows b
 deleted settle rows b (Some gateway) (Some paths) =
@@ -116,18 +118,19 @@ apply_by settle rows (Tick ms) = record { table = rows; reply = Nothing }
 apply_by settle rows Sync = record { table = rows; reply = Nothing }
 apply_by settle rows (Algo setting) = record { table = rows; reply = Nothing }
 
--- what a command does, with room for so many routes and so many live targets
-abbrev pub apply_within : {w : _} → ℕ → ℕ → Table → Command w → Outcome
-apply_within routes live rows command = apply_by (settled routes live) rows command
+-- apply: what a command does to a table that has room for so many live targets, and the reply
+abbrev pub apply : {w : _} → ℕ → Table → Command w → Outcome
+apply live rows command = apply_by (settled live) rows command
 
--- apply: what a command does to the table, and the reply
-abbrev pub apply : {w : _} → Table → Command w → Outcome
-apply rows command = apply_within ROUTES_MAX TARGETS_MAX rows command
-
--- the table after these commands
-abbrev pub table_of : {w : _} → List (Command w) → Table
-table_of commands = fold (λ rows command. (apply rows command).table) [] commands
+-- the table after the commands of a plan
+abbrev pub table_of : {w : _} → ℕ → Planned w → Table
+table_of live plan = fold (λ rows command. (apply live rows command).table) [] plan.commands
 
 -- fold: the table after the first c commands of a plan
-abbrev pub table_after : {w : _} → List (Command w) → ℕ → Table
-table_after plan c = table_of (take c plan)
+abbrev pub table_after : {w : _} → ℕ → Planned w → ℕ → Table
+table_after live plan c = table_of live (plan_until c plan)
+
+-- what every table is: rows in strictly ascending order of their prefixes, each with a list of paths
+pub record IsTable (rows : Table) : Type 0 where
+  pub ascending : IsStrictlySortedBy block_cmp (keys_of rows)
+  pub lists : All IsPathList (values_of rows)

@@ -70,13 +70,18 @@ pub enum Refusal {
 impl<const W: u32> Command<W> {
     ghost use Rattle.std.specs.Prelude.{◌≡◌};
     ghost use Rattle.rib_store.specs.Plan.{named_by, sets_dxr};
+    ghost use Rattle.rib_store.specs.Weights.{IsWeighted};
 
-    /// The nexthop that an `Add` or a `Change` names.
+    /// The nexthop that an `Add` or a `Change` names, and what is known of the path's weight.
     pub(crate) fn nexthop(&self) -> Option<Nexthop<W>>
-        ensures { result ≡ named_by self.now }
+        ensures named { result ≡ named_by self.now }
+        ensures weight { IsWeighted self.now }
     {
         match self {
-            Command::Add { path, .. } | Command::Change { path, .. } => Some(*path.nexthop()),
+            Command::Add { path, .. } | Command::Change { path, .. } => {
+                let _weight = path.weight();
+                Some(*path.nexthop())
+            }
             _ => None,
         }
     }

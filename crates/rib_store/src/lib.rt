@@ -17,10 +17,10 @@ mod rows;
 pub use command::{Command, Refusal, Reply};
 pub use laws::{
     law_limits_are_tried, law_live_targets_are_counted, law_numbers_differ, law_numbers_lead_back,
-    law_tables_are_within,
+    law_tables_are_in_order, law_tables_are_within, law_tables_have_weights,
 };
 pub use plan::{PLAN_MAX, Plan, PushError};
-pub use rib::{ROUTES_MAX, Rib, TARGETS_MAX};
+pub use rib::{ROUTES_MAX, Rib};
 pub use rows::Rows;
 pub use std::alloc::AllocError as OutOfMemory;
 

@@ -4,7 +4,6 @@ ghost use Rattle.prefix_width.specs.Nexthop.{Hop};
 ghost use Rattle.prefix_width.specs.Order.{hop_cmp};
 ghost use Rattle.nhgrp_slots.specs.PathList.{hops};
 ghost use Rattle.counted_map.specs.Counts.{count_of, linked_all, unlinked_all, times};
-ghost use Rattle.rib_store.specs.declared.rib.TheConstants.{ROUTES_MAX, TARGETS_MAX};
 ghost use Rattle.rib_store.specs.Table.{left_by_flush};
 ghost use Rattle.rib_store.specs.Uses.{IsRib};
 
@@ -253,9 +252,12 @@ fn push_groups<const W: u32>(
 }
 
 /// Undoes the links of the routes that a flush takes out.
-pub fn unlink_flushed<const W: u32>(links: &mut Links<W>, routes: &BTreeMap<Prefix<W>, Paths<W>>)
-    requires { IsRib ROUTES_MAX TARGETS_MAX routes.now.entries links.old }
-    ensures { IsRib ROUTES_MAX TARGETS_MAX (left_by_flush routes.now.entries) links.new }
+pub fn unlink_flushed<const W: u32, const LIVE: u32>(
+    links: &mut Links<W>,
+    routes: &BTreeMap<Prefix<W>, Paths<W>>,
+)
+    requires { IsRib LIVE routes.now.entries links.old }
+    ensures { IsRib LIVE (left_by_flush routes.now.entries) links.new }
 {
     let _live = links.live();
     for (prefix, paths) in routes.iter() {

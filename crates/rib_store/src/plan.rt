@@ -1,5 +1,7 @@
-ghost use Rattle.std.specs.Prelude.{◌≡◌, ◌-◌, ◌<◌, ◌≤◌, ◌↔◌, OnOk, OnErr, IsErrOf, IsSome, Contains, [], ◌∷◌, ◌++◌, length, slice_get, Some};
-ghost use Rattle.rib_store.specs.Plan.{IsWrongModule, IsNumbering, named, firsts, number_of, with_first};
+ghost use Rattle.std.specs.Prelude.{◌≡◌, ◌-◌, ◌<◌, ◌≤◌, ◌↔◌, All, OnOk, OnErr, IsErrOf, IsSome, Contains, [], length, slice_get, Some};
+ghost use Rattle.rib_store.specs.Limits.{plan_max};
+ghost use Rattle.rib_store.specs.Plan.{IsWrongModule, IsNumbering, named, firsts, number_of, plan_with, with_first};
+ghost use Rattle.rib_store.specs.Weights.{IsWeighted};
 
 use crate::OutOfMemory;
 use crate::command::Command;
@@ -61,21 +63,19 @@ pub struct Plan<const W: u32> {
 }
 
 impl<const W: u32> Model for Plan<W> {
-    ghost use Rattle.std.specs.Prelude.{List};
-    ghost use Rattle.rib_store.specs.declared.command.Command.{Command};
-    ghost use Rattle.rib_store.specs.Plan.{IsPlan};
+    ghost use Rattle.rib_store.specs.Plan.{IsPlan, Planned};
 
-    ghost Value = { List (Command W) };
+    ghost Value = { Planned W };
 
-    ghost view = { λ p. p.commands.items };
+    ghost view = { λ p. record { commands = p.commands.items } };
 
-    ghost invariant = { λ p. IsPlan p.commands.items p.nexthops.items p.numbers.entries };
+    ghost invariant = { λ p. IsPlan (record { commands = p.commands.items }) p.nexthops.items p.numbers.entries };
 }
 
 impl<const W: u32> Plan<W> {
     /// The empty plan.
     pub fn new(alloc: Global) -> Plan<W>
-        ensures { result ≡ [] }
+        ensures { result ≡ record { commands = [] } }
     {
         Plan {
             commands: Vec::new(alloc),
@@ -86,11 +86,11 @@ impl<const W: u32> Plan<W> {
 
     /// Puts a command behind the others. After an error the plan is as before.
     pub fn push(&mut self, command: Command<W>) -> Result<(), PushError>
-        ensures ok { OnOk result (self.new ≡ self.old ++ command.entry ∷ []) }
+        ensures ok { OnOk result (self.new ≡ plan_with self.old command.entry) }
         ensures err { OnErr result (self.new ≡ self.old) }
         ensures wrong_module { IsErrOf result PushError.WrongModule ↔ IsWrongModule command.entry }
         ensures full { IsErrOf result PushError.PlanFull
-            ↔ (¬ (IsWrongModule command.entry) × (length self.old ≡ PLAN_MAX)) }
+            ↔ (¬ (IsWrongModule command.entry) × (length self.old.commands ≡ plan_max)) }
     {
         if W != 32 && command.sets_dxr() {
             return Err(PushError::WrongModule);
@@ -104,19 +104,21 @@ impl<const W: u32> Plan<W> {
         Ok(())
     }
 
-    /// How many commands there are, at most [`PLAN_MAX`].
+    /// How many commands there are, at most [`PLAN_MAX`], and what every plan knows of them: the
+    /// paths have weights that their kinds may have.
     pub fn len(&self) -> u32
-        ensures count { result ≡ length self.now }
-        ensures most { result ≤ PLAN_MAX }
+        ensures count { result ≡ length self.now.commands }
+        ensures most { result ≤ plan_max }
+        ensures weights { All IsWeighted self.now.commands }
     {
         self.commands.len() as u32
     }
 
     /// The command at a position, counted from 0.
     pub fn command(&self, pos: u32) -> &Command<W>
-        requires { pos < length self.now }
-        ensures command { slice_get self.now pos ≡ Some result.now }
-        ensures most { length self.now ≤ PLAN_MAX }
+        requires { pos < length self.now.commands }
+        ensures command { slice_get self.now.commands pos ≡ Some result.now }
+        ensures most { length self.now.commands ≤ plan_max }
         ensures module { ¬ (IsWrongModule result.now) }
     {
         &self.commands[pos as usize]
@@ -125,7 +127,7 @@ impl<const W: u32> Plan<W> {
     /// How many distinct nexthops its `Add` and `Change` commands name, at most [`PLAN_MAX`].
     pub fn nexthops(&self) -> u32
         ensures count { result ≡ length (firsts (named self.now)) }
-        ensures most { result ≤ PLAN_MAX }
+        ensures most { result ≤ plan_max }
     {
         self.nexthops.len() as u32
     }
@@ -157,7 +159,7 @@ fn give_number<const W: u32>(
     nexthop: Option<Nexthop<W>>,
 ) -> Result<(), OutOfMemory>
     requires numbering { IsNumbering nexthops.old.items numbers.old.entries }
-    requires room { length nexthops.old.items < PLAN_MAX }
+    requires room { length nexthops.old.items < plan_max }
     ensures ok { OnOk result (nexthops.new.items ≡ with_first nexthops.old.items nexthop.entry) }
     ensures numbering { IsNumbering nexthops.new.items numbers.new.entries }
     ensures err { OnErr result (nexthops.new.items ≡ nexthops.old.items) }

@@ -80,3 +80,14 @@ fn dxr_is_for_32_bits_alone(rt: HostRuntime) -> Result<(), Fail> {
     assert_eq!(rt; inet6.push(Command::Algo { setting }), Ok(()));
     Ok(())
 }
+
+#[test]
+fn a_plan_has_1048576_commands_at_most(rt: HostRuntime) -> Result<(), Fail> {
+    let mut plan = Plan::<32>::new(rt.alloc());
+    for _ in 0..1_048_576u32 {
+        plan.push(Command::Sync)?;
+    }
+    assert_eq!(rt; plan.push(Command::Sync), Err(PushError::PlanFull));
+    assert_eq!(rt; plan.len(), 1_048_576);
+    Ok(())
+}

@@ -1,8 +1,15 @@
-ghost use Rattle.std.specs.Prelude.{◌≡◌, ◌<◌, ◌≤◌, IfOk, OnOk, OnErr, [], length, slice_get, Some, None, not, option_copied};
-ghost use Rattle.nhgrp_slots.specs.PathList.{has_via};
+ghost use Rattle.std.specs.Prelude.{◌≡◌, ◌<◌, ◌≤◌, All, IfOk, IsOk, IsTrue, OnOk, OnErr, [], length, slice_get, Some, None, not, option_copied};
+ghost use Rattle.std.specs.List.Sorted.{IsStrictlySortedBy};
+ghost use Rattle.std.specs.Map.{keys_of, values_of};
+ghost use Rattle.prefix_width.specs.Limits.{AreTargets};
+ghost use Rattle.prefix_width.specs.Order.{block_cmp};
+ghost use Rattle.nhgrp_slots.specs.PathList.{IsPathList, has_via};
+ghost use Rattle.nhgrp_slots.specs.Target.{IsTarget, target_cmp};
 ghost use Rattle.rib_store.specs.declared.command.Reply.TheVariants.{Added};
+ghost use Rattle.rib_store.specs.Limits.{routes_max};
+ghost use Rattle.rib_store.specs.Memory.{wants_none};
 ghost use Rattle.rib_store.specs.Table.{Table, apply, settled, added, changed, replaced, deleted, flushed, paths_at, drop_row};
-ghost use Rattle.rib_store.specs.Targets.{live};
+ghost use Rattle.rib_store.specs.Targets.{AreClosed, LeadToLive, live};
 ghost use Rattle.rib_store.specs.Uses.{IsRib};
 
 use crate::OutOfMemory;
@@ -19,18 +26,15 @@ use std::mem;
 /// How many routes a table may have.
 pub const ROUTES_MAX: u32 = 262_144;
 
-/// How many live targets a table may have: distinct nexthops and groups.
-pub const TARGETS_MAX: u32 = 2_047;
-
-/// The routes of a family, in the order of their prefixes, with the counts of what they lead to.
+/// The routes of a family, in the order of their prefixes, with the counts of what they lead to. At
+/// most `LIVE` targets are live, distinct nexthops and groups, and `LIVE` is 1 to 4,095.
 #[derive(Drop)]
-pub struct Rib<const W: u32> {
+pub struct Rib<const W: u32, const LIVE: u32> {
     routes: BTreeMap<Prefix<W>, Paths<W>>,
     links: Links<W>,
 }
 
-impl<const W: u32> Model for Rib<W> {
-    ghost use Rattle.rib_store.specs.declared.rib.TheConstants.{ROUTES_MAX, TARGETS_MAX};
+impl<const W: u32, const LIVE: u32> Model for Rib<W, LIVE> {
     ghost use Rattle.rib_store.specs.Table.{Table};
     ghost use Rattle.rib_store.specs.Uses.{IsRib};
 
@@ -38,12 +42,13 @@ impl<const W: u32> Model for Rib<W> {
 
     ghost view = { λ r. r.routes.entries };
 
-    ghost invariant = { λ r. IsRib ROUTES_MAX TARGETS_MAX r.routes.entries r.links };
+    ghost invariant = { λ r. IsRib LIVE r.routes.entries r.links };
 }
 
-impl<const W: u32> Rib<W> {
-    /// The empty table.
-    pub fn new(alloc: Global) -> Rib<W>
+impl<const W: u32, const LIVE: u32> Rib<W, LIVE> {
+    /// The empty table, with room for 1 to 4,095 live targets.
+    pub fn new(alloc: Global) -> Rib<W, LIVE>
+        requires { AreTargets LIVE }
         ensures { result ≡ [] }
     {
         Rib {
@@ -52,11 +57,14 @@ impl<const W: u32> Rib<W> {
         }
     }
 
-    /// Does what a command asks. A refusal and want of memory leave the table as it was.
+    /// Does what a command asks. A refusal and want of memory leave the table as it was. Memory is
+    /// never wanting where no paths are put in: for a delete without gateway, a flush, and what the
+    /// table has no part in.
     pub fn apply(&mut self, alloc: Global, command: &Command<W>) -> Result<Reply, OutOfMemory>
-        ensures table { OnOk result (self.new ≡ (apply self.old command.now).table) }
-        ensures reply { IfOk result (λ reply. reply ≡ (apply self.old command.now).reply) }
+        ensures table { OnOk result (self.new ≡ (apply LIVE self.old command.now).table) }
+        ensures reply { IfOk result (λ reply. reply ≡ (apply LIVE self.old command.now).reply) }
         ensures err { OnErr result (self.new ≡ self.old) }
+        ensures memory { IsTrue (wants_none command.now) → IsOk result }
     {
         match *command {
             Command::Add { prefix, path } => self.add(alloc, prefix, path),
@@ -69,10 +77,13 @@ impl<const W: u32> Rib<W> {
         }
     }
 
-    /// How many routes there are.
+    /// How many routes there are, at most [`ROUTES_MAX`], and what every table knows of its rows:
+    /// their prefixes ascend strictly, and each has a list of paths.
     pub fn len(&self) -> u32
         ensures count { result ≡ length self.now }
-        ensures most { result ≤ ROUTES_MAX }
+        ensures most { result ≤ routes_max }
+        ensures ascending { IsStrictlySortedBy block_cmp (keys_of self.now) }
+        ensures lists { All IsPathList (values_of self.now) }
     {
         self.routes.len() as u32
     }
@@ -103,9 +114,15 @@ impl<const W: u32> Rib<W> {
     }
 
     /// The live targets in their order: the distinct nexthops of all paths, then the distinct
-    /// groups.
+    /// groups. There are at most `LIVE`, each nexthop of a group is one of them, and so is what each
+    /// route leads to.
     pub fn targets(&self, alloc: Global) -> Result<Vec<Target<W>>, OutOfMemory>
-        ensures { IfOk result (λ v. v.items ≡ live self.now) }
+        ensures live { IfOk result (λ v. v.items ≡ live self.now) }
+        ensures ascending { IfOk result (λ v. IsStrictlySortedBy target_cmp v.items) }
+        ensures most { IfOk result (λ v. length v.items ≤ LIVE) }
+        ensures targets { IfOk result (λ v. All IsTarget v.items) }
+        ensures closed { IfOk result (λ v. AreClosed v.items) }
+        ensures rows { IfOk result (λ v. LeadToLive v.items self.now) }
     {
         let _live = self.links.live();
         self.links.targets(alloc)
@@ -120,8 +137,8 @@ impl<const W: u32> Rib<W> {
         paths: Paths<W>,
     ) -> Result<Reply, OutOfMemory>
         requires { paths_at self.old prefix ≡ None }
-        ensures table { OnOk result (self.new ≡ (settled ROUTES_MAX TARGETS_MAX self.old prefix.entry paths.entry Added).table) }
-        ensures reply { IfOk result (λ r. r ≡ (settled ROUTES_MAX TARGETS_MAX self.old prefix.entry paths.entry Added).reply) }
+        ensures table { OnOk result (self.new ≡ (settled LIVE self.old prefix.entry paths.entry Added).table) }
+        ensures reply { IfOk result (λ r. r ≡ (settled LIVE self.old prefix.entry paths.entry Added).reply) }
         ensures err { OnErr result (self.new ≡ self.old) }
     {
         let _list = paths.as_slice();
@@ -129,7 +146,7 @@ impl<const W: u32> Rib<W> {
         if self.routes.len() >= ROUTES_MAX as usize {
             return Ok(Reply::Refused(Refusal::TableFull));
         }
-        if self.links.live_after(None, &paths) > TARGETS_MAX {
+        if self.links.live_after(None, &paths) > LIVE {
             return Ok(Reply::Refused(Refusal::TargetsFull));
         }
         self.links.link(alloc, &paths)?;
@@ -146,8 +163,8 @@ impl<const W: u32> Rib<W> {
 
     /// Adds a path to the prefix's route, or the route where there is none.
     fn add(&mut self, alloc: Global, prefix: Prefix<W>, path: Path<W>) -> Result<Reply, OutOfMemory>
-        ensures table { OnOk result (self.new ≡ (added (settled ROUTES_MAX TARGETS_MAX) self.old prefix.entry path.entry (paths_at self.old prefix.entry)).table) }
-        ensures reply { IfOk result (λ r. r ≡ (added (settled ROUTES_MAX TARGETS_MAX) self.old prefix.entry path.entry (paths_at self.old prefix.entry)).reply) }
+        ensures table { OnOk result (self.new ≡ (added (settled LIVE) self.old prefix.entry path.entry (paths_at self.old prefix.entry)).table) }
+        ensures reply { IfOk result (λ r. r ≡ (added (settled LIVE) self.old prefix.entry path.entry (paths_at self.old prefix.entry)).reply) }
         ensures err { OnErr result (self.new ≡ self.old) }
     {
         match self.routes.get(&prefix) {
@@ -163,7 +180,7 @@ impl<const W: u32> Rib<W> {
                     return Ok(Reply::Refused(Refusal::PathsFull));
                 }
                 let paths = present.with(alloc, path)?;
-                replace(
+                replace::<W, LIVE>(
                     &mut self.routes,
                     &mut self.links,
                     alloc,
@@ -182,12 +199,12 @@ impl<const W: u32> Rib<W> {
         prefix: Prefix<W>,
         path: Path<W>,
     ) -> Result<Reply, OutOfMemory>
-        ensures table { OnOk result (self.new ≡ (changed (settled ROUTES_MAX TARGETS_MAX) self.old prefix.entry path.entry (paths_at self.old prefix.entry)).table) }
-        ensures reply { IfOk result (λ r. r ≡ (changed (settled ROUTES_MAX TARGETS_MAX) self.old prefix.entry path.entry (paths_at self.old prefix.entry)).reply) }
+        ensures table { OnOk result (self.new ≡ (changed (settled LIVE) self.old prefix.entry path.entry (paths_at self.old prefix.entry)).table) }
+        ensures reply { IfOk result (λ r. r ≡ (changed (settled LIVE) self.old prefix.entry path.entry (paths_at self.old prefix.entry)).reply) }
         ensures err { OnErr result (self.new ≡ self.old) }
     {
         let paths = Paths::one(alloc, path)?;
-        replace(
+        replace::<W, LIVE>(
             &mut self.routes,
             &mut self.links,
             alloc,
@@ -214,9 +231,10 @@ impl<const W: u32> Rib<W> {
         prefix: Prefix<W>,
         gateway: Option<Addr<W>>,
     ) -> Result<Reply, OutOfMemory>
-        ensures table { OnOk result (self.new ≡ (deleted (settled ROUTES_MAX TARGETS_MAX) self.old prefix.entry gateway.entry (paths_at self.old prefix.entry)).table) }
-        ensures reply { IfOk result (λ r. r ≡ (deleted (settled ROUTES_MAX TARGETS_MAX) self.old prefix.entry gateway.entry (paths_at self.old prefix.entry)).reply) }
+        ensures table { OnOk result (self.new ≡ (deleted (settled LIVE) self.old prefix.entry gateway.entry (paths_at self.old prefix.entry)).table) }
+        ensures reply { IfOk result (λ r. r ≡ (deleted (settled LIVE) self.old prefix.entry gateway.entry (paths_at self.old prefix.entry)).reply) }
         ensures err { OnErr result (self.new ≡ self.old) }
+        ensures memory { gateway.entry ≡ None → IsOk result }
     {
         match self.routes.get(&prefix) {
             None => Ok(Reply::Refused(Refusal::NotFound)),
@@ -234,7 +252,7 @@ impl<const W: u32> Rib<W> {
                             self.drop_route(&prefix);
                             Ok(Reply::Deleted)
                         }
-                        Some(paths) => replace(
+                        Some(paths) => replace::<W, LIVE>(
                             &mut self.routes,
                             &mut self.links,
                             alloc,
@@ -254,7 +272,7 @@ impl<const W: u32> Rib<W> {
         ensures reply { result ≡ (flushed self.old).reply }
     {
         let before = self.routes.len();
-        unlink_flushed(&mut self.links, &self.routes);
+        unlink_flushed::<W, LIVE>(&mut self.links, &self.routes);
         self.routes.retain(
             |_prefix: &Prefix<W>, paths: &mut Paths<W>| -> bool
                 ensures kept { result ≡ not (has_via paths.old) }
@@ -267,7 +285,7 @@ impl<const W: u32> Rib<W> {
 
 /// Puts the paths in place of those of the prefix's route, unless there is no such route or there
 /// would be too many live targets. The links of the new paths are made first.
-fn replace<const W: u32>(
+fn replace<const W: u32, const LIVE: u32>(
     routes: &mut BTreeMap<Prefix<W>, Paths<W>>,
     links: &mut Links<W>,
     alloc: Global,
@@ -275,10 +293,10 @@ fn replace<const W: u32>(
     paths: Paths<W>,
     reply: Reply,
 ) -> Result<Reply, OutOfMemory>
-    requires { IsRib ROUTES_MAX TARGETS_MAX routes.old.entries links.old }
-    ensures rib { IsRib ROUTES_MAX TARGETS_MAX routes.new.entries links.new }
-    ensures table { OnOk result (routes.new.entries ≡ (replaced (settled ROUTES_MAX TARGETS_MAX) routes.old.entries prefix.now paths.entry reply (paths_at routes.old.entries prefix.now)).table) }
-    ensures reply { IfOk result (λ r. r ≡ (replaced (settled ROUTES_MAX TARGETS_MAX) routes.old.entries prefix.now paths.entry reply (paths_at routes.old.entries prefix.now)).reply) }
+    requires { IsRib LIVE routes.old.entries links.old }
+    ensures rib { IsRib LIVE routes.new.entries links.new }
+    ensures table { OnOk result (routes.new.entries ≡ (replaced (settled LIVE) routes.old.entries prefix.now paths.entry reply (paths_at routes.old.entries prefix.now)).table) }
+    ensures reply { IfOk result (λ r. r ≡ (replaced (settled LIVE) routes.old.entries prefix.now paths.entry reply (paths_at routes.old.entries prefix.now)).reply) }
     ensures err { OnErr result (routes.new.entries ≡ routes.old.entries) }
 {
     let _list = paths.as_slice();
@@ -286,7 +304,7 @@ fn replace<const W: u32>(
     let Some(present) = routes.get_mut(prefix) else {
         return Ok(Reply::Refused(Refusal::NotFound));
     };
-    if links.live_after(Some(&*present), &paths) > TARGETS_MAX {
+    if links.live_after(Some(&*present), &paths) > LIVE {
         return Ok(Reply::Refused(Refusal::TargetsFull));
     }
     links.link(alloc, &paths)?;

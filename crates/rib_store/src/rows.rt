@@ -21,13 +21,13 @@ pub struct Rows<const W: u32> {
 impl<const W: u32> Model for Rows<W> {
     ghost use Rattle.std.specs.Prelude.{length, ◌≤◌};
     ghost use Rattle.rib_store.specs.Table.{Table};
-    ghost use Rattle.rib_store.specs.declared.rib.TheConstants.{ROUTES_MAX};
+    ghost use Rattle.rib_store.specs.Limits.{routes_max};
 
     ghost Value = { Table };
 
     ghost view = { λ r. r.rows.items };
 
-    ghost invariant = { λ r. length r.rows.items ≤ ROUTES_MAX };
+    ghost invariant = { λ r. length r.rows.items ≤ routes_max };
 }
 
 impl<const W: u32> Rows<W> {
@@ -57,7 +57,7 @@ impl<const W: u32> Rows<W> {
     }
 }
 
-impl<const W: u32> Rib<W> {
+impl<const W: u32, const LIVE: u32> Rib<W, LIVE> {
     /// A copy of the rows.
     pub fn rows(&self, alloc: Global) -> Result<Rows<W>, OutOfMemory>
         ensures { IfOk result (λ rows. rows ≡ self.now) }

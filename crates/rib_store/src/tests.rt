@@ -3,16 +3,16 @@ use nhgrp_slots::Target;
 use prefix_width::{Addr, Nexthop, Path, Prefix};
 use std::test::Fail;
 
-/// 10.0.0.0 and 192.0.2.0.
+/// 10.0.0.0 and 192.0.0.0.
 const TEN: u128 = 0x0a00_0000;
 
-const NET: u128 = 0xc000_0200;
+const NET: u128 = 0xc000_0000;
 
 fn prefix(base: u128, len: u8) -> Option<Prefix<32>> {
     Prefix::masked(Addr::new(base)?, len)
 }
 
-/// The nexthop by the host of 192.0.2.0/24, or the attached interface 1 where the host is 0.
+/// The nexthop by the host of 192.0.0.0/16, or the attached interface 1 where the host is 0.
 fn nexthop(host: u128) -> Option<Nexthop<32>> {
     if host == 0 {
         return Nexthop::direct(1, 0);
@@ -51,7 +51,7 @@ fn delete(gateway: Option<u128>) -> Option<Command<32>> {
 #[test]
 fn a_route_is_added_changed_and_deleted(rt: HostRuntime) -> Result<(), Fail> {
     let alloc = rt.alloc();
-    let mut rib = Rib::<32>::new(alloc);
+    let mut rib = Rib::<32, 4095>::new(alloc);
     let missing = Reply::Refused(Refusal::NotFound);
     for (command, reply) in [
         (change(2), missing),
@@ -76,7 +76,7 @@ fn a_route_is_added_changed_and_deleted(rt: HostRuntime) -> Result<(), Fail> {
 #[test]
 fn flows_are_shared_by_weight(rt: HostRuntime) -> Result<(), Fail> {
     let alloc = rt.alloc();
-    let mut rib = Rib::<32>::new(alloc);
+    let mut rib = Rib::<32, 4095>::new(alloc);
     for command in [
         add(TEN, 8, 2, 3),
         add(TEN, 8, 1, 1),
@@ -112,7 +112,7 @@ fn flows_are_shared_by_weight(rt: HostRuntime) -> Result<(), Fail> {
 #[test]
 fn a_route_has_64_paths_at_most(rt: HostRuntime) -> Result<(), Fail> {
     let alloc = rt.alloc();
-    let mut rib = Rib::<32>::new(alloc);
+    let mut rib = Rib::<32, 4095>::new(alloc);
     for host in 1..66u32 {
         let command = add(TEN, 8, u128::from(host), 1).ok_or("no command")?;
         let want = match host {
@@ -128,7 +128,7 @@ fn a_route_has_64_paths_at_most(rt: HostRuntime) -> Result<(), Fail> {
 #[test]
 fn a_flush_keeps_what_goes_by_no_gateway(rt: HostRuntime) -> Result<(), Fail> {
     let alloc = rt.alloc();
-    let mut rib = Rib::<32>::new(alloc);
+    let mut rib = Rib::<32, 4095>::new(alloc);
     for (command, reply) in [
         (add(0, 0, 0, 1), Reply::Added),
         (add(TEN, 8, 1, 1), Reply::Added),
@@ -148,7 +148,7 @@ fn a_flush_keeps_what_goes_by_no_gateway(rt: HostRuntime) -> Result<(), Fail> {
 #[test]
 fn a_table_has_262144_routes_at_most(rt: HostRuntime) -> Result<(), Fail> {
     let alloc = rt.alloc();
-    let mut rib = Rib::<32>::new(alloc);
+    let mut rib = Rib::<32, 4095>::new(alloc);
     for host in 0..262_144u32 {
         let command = add(u128::from(host), 32, 1, 1).ok_or("no command")?;
         assert_eq!(rt; rib.apply(alloc, &command)?, Reply::Added, "at {host}");
@@ -162,4 +162,48 @@ fn a_table_has_262144_routes_at_most(rt: HostRuntime) -> Result<(), Fail> {
     }
     assert_eq!(rt; rib.len(), 262_144);
     Ok(())
+}
+
+#[test]
+fn a_table_has_as_many_live_targets_as_it_says(rt: HostRuntime) -> Result<(), Fail> {
+    let alloc = rt.alloc();
+    let mut few = Rib::<32, 3>::new(alloc);
+    let full = Reply::Refused(Refusal::TargetsFull);
+    // Two nexthops and their group; a third nexthop is one too many, before and behind them.
+    for (command, reply) in [
+        (add(TEN, 8, 1, 1), Reply::Added),
+        (add(TEN, 8, 2, 1), Reply::Joined),
+        (add(TEN, 9, 3, 1), full),
+        (add(TEN, 8, 3, 1), full),
+        (add(TEN, 9, 2, 1), Reply::Added),
+        (delete(Some(NET | 1)), Reply::Deleted),
+        (add(TEN, 10, 3, 1), Reply::Added),
+        (add(TEN, 11, 4, 1), Reply::Added),
+        (add(TEN, 12, 5, 1), full),
+    ] {
+        let command = command.ok_or("no command")?;
+        assert_eq!(rt; few.apply(alloc, &command)?, reply);
+    }
+    assert_eq!(rt; few.targets(alloc)?.len(), 3);
+    let mut most = Rib::<32, 4095>::new(alloc);
+    for host in 1..4097u32 {
+        let command = add(u128::from(host), 32, u128::from(host), 1).ok_or("no command")?;
+        let want = if host == 4096 { full } else { Reply::Added };
+        assert_eq!(rt; most.apply(alloc, &command)?, want, "at {host}");
+    }
+    assert_eq!(rt; most.targets(alloc)?.len(), 4095);
+    Ok(())
+}
+
+#[test]
+fn refusals_are_numbered(rt: HostRuntime) {
+    for (refusal, number) in [
+        (Refusal::Exists, 1),
+        (Refusal::NotFound, 2),
+        (Refusal::PathsFull, 3),
+        (Refusal::TableFull, 4),
+        (Refusal::TargetsFull, 5),
+    ] {
+        assert_eq!(rt; refusal as u8, number);
+    }
 }

@@ -34,7 +34,7 @@ use Rattle.route_lang.specs.declared.verb.Flag.{Flag}
 use Rattle.route_lang.specs.declared.verb.Flag.TheVariants as flag
 use Rattle.route_lang.specs.declared.verb.Token.{Token}
 use Rattle.route_lang.specs.declared.verb.Token.TheVariants.{Bare, Plain, Valued}
-use Rattle.route_lang.specs.declared.script.TheConstants.{LINES_MAX, LINE_MAX}
+use Rattle.route_lang.specs.Limits.{lines_limit, line_limit}
 
 -- ---- the walk
 
@@ -364,16 +364,16 @@ words_ask line (first ∷ words) = choice (is_comment first) (list_all is_taken 
 
 -- what a line of a number asks for
 abbrev pub IsAskedAt : ℕ → Asked → Type 0
-IsAskedAt at asked = (at ≤ LINES_MAX) × IsAsked asked
+IsAskedAt at asked = (at ≤ lines_limit) × IsAsked asked
 
 pub asked_at : (at : ℕ) (text : List ℕ) → IfOk (asked_of at text) (IsAskedAt at)
-asked_at at text = choice (nat_lt LINES_MAX at) (nat_lt LINE_MAX (length text)) refl (by_words text (words_of text)) (words_ask text (words_of text))
+asked_at at text = choice (nat_lt lines_limit at) (nat_lt line_limit (length text)) refl (by_words text (words_of text)) (words_ask text (words_of text))
   where
-    inside : (r : Result Asked Reason) → at ≤ LINES_MAX → IfOk r IsAsked → IfOk r (IsAskedAt at)
+    inside : (r : Result Asked Reason) → at ≤ lines_limit → IfOk r IsAsked → IfOk r (IsAskedAt at)
     inside (Err reason) few is = tt
     inside (Ok asked) few is = (few, is)
 
-    choice : (past long : Bool) → nat_lt LINES_MAX at ≡ past → (r : Result Asked Reason) → IfOk r IsAsked → IfOk (cond past (Err TooManyLines) (cond long (Err LineTooLong) r)) (IsAskedAt at)
+    choice : (past long : Bool) → nat_lt lines_limit at ≡ past → (r : Result Asked Reason) → IfOk r IsAsked → IfOk (cond past (Err TooManyLines) (cond long (Err LineTooLong) r)) (IsAskedAt at)
     choice true long e r is = tt
     choice false true e r is = tt
-    choice false false e r is = inside r (ltb-false LINES_MAX at e) is
+    choice false false e r is = inside r (ltb-false lines_limit at e) is

@@ -32,7 +32,7 @@ use Rattle.route_lang.specs.declared.verb.Verb.TheVariants as verb
 use Rattle.route_lang.specs.declared.verb.Flag.{Flag}
 use Rattle.route_lang.specs.declared.verb.Flag.TheVariants as flag
 use Rattle.route_lang.specs.declared.verb.Token.TheVariants.{Plain}
-use Rattle.route_lang.specs.declared.script.TheConstants.{LINES_MAX, LINE_MAX}
+use Rattle.route_lang.specs.Limits.{lines_limit, line_limit}
 
 -- ---- a line of words
 
@@ -44,13 +44,13 @@ pub record AsksFor (v : Verb) (name : List ℕ) (rest : List (List ℕ)) (asked 
   pub named : verb_of name ≡ Some v
   pub walk : (walk_from v nothing_met rest >>= asked_by v) ≡ Ok asked
 
-by_parts : (at : ℕ) (line : List ℕ) (words : List (List ℕ)) → at ≤ LINES_MAX → length line ≤ LINE_MAX → words_of line ≡ words → asked_of at line ≡ by_words line words
+by_parts : (at : ℕ) (line : List ℕ) (words : List (List ℕ)) → at ≤ lines_limit → length line ≤ line_limit → words_of line ≡ words → asked_of at line ≡ by_words line words
 by_parts at line words few short e =
-    let inside : nat_lt LINES_MAX at ≡ false = grind (arith, nat_tests) in
-    let enough : nat_lt LINE_MAX (length line) ≡ false = grind (arith, nat_tests) in
+    let inside : nat_lt lines_limit at ≡ false = grind (arith, nat_tests) in
+    let enough : nat_lt line_limit (length line) ≡ false = grind (arith, nat_tests) in
     rw (inside, enough) (ap (by_words line) e)
 
-pub line_asks : (v : Verb) (name : List ℕ) (rest : List (List ℕ)) (asked : Asked) (at : ℕ) → AsksFor v name rest asked → at ≤ LINES_MAX → length (joined (name ∷ rest)) ≤ LINE_MAX → asked_of at (joined (name ∷ rest)) ≡ Ok asked
+pub line_asks : (v : Verb) (name : List ℕ) (rest : List (List ℕ)) (asked : Asked) (at : ℕ) → AsksFor v name rest asked → at ≤ lines_limit → length (joined (name ∷ rest)) ≤ line_limit → asked_of at (joined (name ∷ rest)) ≡ Ok asked
 line_asks v name rest asked at asks few short =
     let parts = by_parts at (joined (name ∷ rest)) (name ∷ rest) few short (words_of-joined (name ∷ rest) asks.are) in
     let taken = taken-joined (name ∷ rest) asks.are in
@@ -268,7 +268,7 @@ asked_words (Get6 a flow) = get_words 128 a flow
 
 -- these are words, and ask for this on a line of any number
 abbrev pub Asks : List (List ℕ) → Asked → Type 0
-Asks words asked = (list_all is_word words ≡ true) × ((at : ℕ) → at ≤ LINES_MAX → length (joined words) ≤ LINE_MAX → asked_of at (joined words) ≡ Ok asked)
+Asks words asked = (list_all is_word words ≡ true) × ((at : ℕ) → at ≤ lines_limit → length (joined words) ≤ line_limit → asked_of at (joined words) ≡ Ok asked)
 
 asks_by : (v : Verb) (name : List ℕ) (rest : List (List ℕ)) (asked : Asked) → AsksFor v name rest asked → Asks (name ∷ rest) asked
 asks_by v name rest asked asks = (asks.are, λ at few short. line_asks v name rest asked at asks few short)

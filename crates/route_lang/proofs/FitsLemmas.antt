@@ -9,6 +9,7 @@ use Rattle.rib_store.specs.declared.command.Command.TheVariants as command
 use Rattle.route_lang.specs.Asked.{asked_of}
 use Rattle.route_lang.proofs.AskedLemmas.{IsAskedAt, asked_at}
 use Rattle.route_lang.proofs.CommandLemmas.{IsCommand}
+use Rattle.rib_store.specs.Plan.{Planned}
 use Rattle.route_lang.specs.Script.{Reading, is_quiet, shared_command, command_line, plans_behind, entries_of, with_front, then_lines, lines_from, no_plans}
 use Rattle.route_lang.specs.Fits.{Positions, behind, positions_behind, Rises, HasAt, FitsLine, Fits, HasCommands, is_algo, IsScript}
 use Rattle.route_lang.specs.declared.asked.Asked.{Asked}
@@ -20,7 +21,7 @@ use Rattle.route_lang.specs.declared.line.Line.TheVariants as line
 use Rattle.route_lang.specs.declared.fault.LineFault.{LineFault}
 use Rattle.route_lang.specs.declared.fault.Reason.{Reason}
 use Rattle.route_lang.specs.declared.script.Plans.{Plans}
-use Rattle.route_lang.specs.declared.script.TheConstants.{LINES_MAX}
+use Rattle.route_lang.specs.Limits.{lines_limit}
 
 -- ---- the line of a command
 
@@ -31,8 +32,8 @@ seam xs more whole c e =
     rw (e ∙ append_assoc xs (c ∷ []) more)
     (slice_get-get_or (xs ++ c ∷ more) (length xs) c (omega arith) ∙ ap Some (get_or-append_seam xs c more c))
 
-module _ (plan : List (Command 32)) (plan6 : List (Command 128)) (at : Positions) (number : ℕ) where
-  line_fits : (pos : ℕ) (c : Command 32) → IsCommand 32 c → pos ≡ at.inet → slice_get plan pos ≡ Some c → FitsLine plan plan6 at (command_line (is_quiet c) number (Some pos) None)
+module _ (plan : Planned 32) (plan6 : Planned 128) (at : Positions) (number : ℕ) where
+  line_fits : (pos : ℕ) (c : Command 32) → IsCommand 32 c → pos ≡ at.inet → slice_get plan.commands pos ≡ Some c → FitsLine plan plan6 at (command_line (is_quiet c) number (Some pos) None)
   line_fits pos (command.Add prefix path) own e found = (e, rw found refl)
   line_fits pos (command.Change prefix path) own e found = (e, rw found refl)
   line_fits pos (command.Delete prefix gateway) own e found = (e, rw found refl)
@@ -41,7 +42,7 @@ module _ (plan : List (Command 32)) (plan6 : List (Command 128)) (at : Positions
   line_fits pos command.Sync own e found = absurd own
   line_fits pos (command.Algo setting) own e found = (e, rw found refl)
 
-  line_fits6 : (pos : ℕ) (c : Command 128) → IsCommand 128 c → pos ≡ at.inet6 → slice_get plan6 pos ≡ Some c → FitsLine plan plan6 at (command_line (is_quiet c) number None (Some pos))
+  line_fits6 : (pos : ℕ) (c : Command 128) → IsCommand 128 c → pos ≡ at.inet6 → slice_get plan6.commands pos ≡ Some c → FitsLine plan plan6 at (command_line (is_quiet c) number None (Some pos))
   line_fits6 pos (command.Add prefix path) own e found = (e, rw found refl)
   line_fits6 pos (command.Change prefix path) own e found = (e, rw found refl)
   line_fits6 pos (command.Delete prefix gateway) own e found = (e, rw found refl)
@@ -50,7 +51,7 @@ module _ (plan : List (Command 32)) (plan6 : List (Command 128)) (at : Positions
   line_fits6 pos command.Sync own e found = absurd own
   line_fits6 pos (command.Algo setting) own e found = (e, rw found refl)
 
-  both_fit : (pos pos6 : ℕ) (s : Shared) → pos ≡ at.inet → pos6 ≡ at.inet6 → slice_get plan pos ≡ Some (shared_command s) → slice_get plan6 pos6 ≡ Some (shared_command s)
+  both_fit : (pos pos6 : ℕ) (s : Shared) → pos ≡ at.inet → pos6 ≡ at.inet6 → slice_get plan.commands pos ≡ Some (shared_command s) → slice_get plan6.commands pos6 ≡ Some (shared_command s)
       → FitsLine plan plan6 at (command_line (is_quiet {w = 32} (shared_command s)) number (Some pos) (Some pos6))
   both_fit pos pos6 shared.Flush e e6 found found6 = (e, e6, record { shared = shared.Flush; kind = refl; inet = found; inet6 = found6 })
   both_fit pos pos6 (shared.Tick ms) e e6 found found6 = (e, e6, record { shared = shared.Tick ms; kind = refl; inet = found; inet6 = found6 })
@@ -67,15 +68,15 @@ then_rises below number false inet inet6 lines more rises = (more, rises)
 -- ---- every script of the grammar
 
 abbrev lengths : Plans → Positions
-lengths plans = record { inet = length plans.inet; inet6 = length plans.inet6 }
+lengths plans = record { inet = length plans.inet.commands; inet6 = length plans.inet6.commands }
 
 -- what the lines from a number on give, behind these plans
 pub record Follows (at : ℕ) (plans : Plans) (script : Reading) : Type 0 where
   pub more : List (Command 32)
   pub more6 : List (Command 128)
-  pub inet : script.inet ≡ plans.inet ++ more
-  pub inet6 : script.inet6 ≡ plans.inet6 ++ more6
-  pub few : length script.lines ≤ LINES_MAX + 1 - at
+  pub inet : script.inet.commands ≡ plans.inet.commands ++ more
+  pub inet6 : script.inet6.commands ≡ plans.inet6.commands ++ more6
+  pub few : length script.lines ≤ lines_limit + 1 - at
   pub rises : (below : ℕ) → below < at → Rises below script.lines
   pub fits : Fits script.inet script.inet6 (lengths plans) script.lines
 
@@ -88,47 +89,47 @@ behind_line : (at : ℕ) (plans : Plans) (asked : Asked) (more : Reading) → Is
 behind_line at plans Nothing more is r =
     record { more = r.more; more6 = r.more6; inet = r.inet; inet6 = r.inet6; few = omega (arith, r.few); rises = λ below h. r.rises below (omega arith); fits = r.fits }
 behind_line at plans (Inet c) more is r =
-    let longer : length (plans.inet ++ c ∷ []) ≡ length plans.inet + 1 = length-append plans.inet (c ∷ []) in
+    let longer : length (plans.inet.commands ++ c ∷ []) ≡ length plans.inet.commands + 1 = length-append plans.inet.commands (c ∷ []) in
     let later = rw longer at r.fits in
-    let found = seam plans.inet r.more more.inet c r.inet in
+    let found = seam plans.inet.commands r.more more.inet.commands c r.inet in
     record {
       more = c ∷ r.more;
       more6 = r.more6;
-      inet = r.inet ∙ append_assoc plans.inet (c ∷ []) r.more;
+      inet = r.inet ∙ append_assoc plans.inet.commands (c ∷ []) r.more;
       inet6 = r.inet6;
       few = omega (arith, r.few);
-      rises = λ below h. then_rises below at (is_quiet c) (Some (length plans.inet)) None more.lines h (r.rises at (omega arith));
-      fits = then_fits more.inet more.inet6 (lengths plans) at (is_quiet c) (Some (length plans.inet)) None more.lines (line_fits more.inet more.inet6 (lengths plans) at (length plans.inet) c is.1 refl found) later;
+      rises = λ below h. then_rises below at (is_quiet c) (Some (length plans.inet.commands)) None more.lines h (r.rises at (omega arith));
+      fits = then_fits more.inet more.inet6 (lengths plans) at (is_quiet c) (Some (length plans.inet.commands)) None more.lines (line_fits more.inet more.inet6 (lengths plans) at (length plans.inet.commands) c is.1 refl found) later;
     }
 behind_line at plans (Inet6 c) more is r =
-    let longer : length (plans.inet6 ++ c ∷ []) ≡ length plans.inet6 + 1 = length-append plans.inet6 (c ∷ []) in
+    let longer : length (plans.inet6.commands ++ c ∷ []) ≡ length plans.inet6.commands + 1 = length-append plans.inet6.commands (c ∷ []) in
     let later = rw longer at r.fits in
-    let found = seam plans.inet6 r.more6 more.inet6 c r.inet6 in
+    let found = seam plans.inet6.commands r.more6 more.inet6.commands c r.inet6 in
     record {
       more = r.more;
       more6 = c ∷ r.more6;
       inet = r.inet;
-      inet6 = r.inet6 ∙ append_assoc plans.inet6 (c ∷ []) r.more6;
+      inet6 = r.inet6 ∙ append_assoc plans.inet6.commands (c ∷ []) r.more6;
       few = omega (arith, r.few);
-      rises = λ below h. then_rises below at (is_quiet c) None (Some (length plans.inet6)) more.lines h (r.rises at (omega arith));
-      fits = then_fits more.inet more.inet6 (lengths plans) at (is_quiet c) None (Some (length plans.inet6)) more.lines (line_fits6 more.inet more.inet6 (lengths plans) at (length plans.inet6) c is.1 refl found) later;
+      rises = λ below h. then_rises below at (is_quiet c) None (Some (length plans.inet6.commands)) more.lines h (r.rises at (omega arith));
+      fits = then_fits more.inet more.inet6 (lengths plans) at (is_quiet c) None (Some (length plans.inet6.commands)) more.lines (line_fits6 more.inet more.inet6 (lengths plans) at (length plans.inet6.commands) c is.1 refl found) later;
     }
 behind_line at plans (Both s) more is r =
     let c : Command 32 = shared_command s in
     let c6 : Command 128 = shared_command s in
-    let longer : length (plans.inet ++ shared_command s ∷ []) ≡ length plans.inet + 1 = length-append plans.inet (shared_command s ∷ []) in
-    let longer6 : length (plans.inet6 ++ shared_command s ∷ []) ≡ length plans.inet6 + 1 = length-append plans.inet6 (shared_command s ∷ []) in
+    let longer : length (plans.inet.commands ++ shared_command s ∷ []) ≡ length plans.inet.commands + 1 = length-append plans.inet.commands (shared_command s ∷ []) in
+    let longer6 : length (plans.inet6.commands ++ shared_command s ∷ []) ≡ length plans.inet6.commands + 1 = length-append plans.inet6.commands (shared_command s ∷ []) in
     let later = rw (longer, longer6) at r.fits in
-    let found = seam plans.inet r.more more.inet c r.inet in
-    let found6 = seam plans.inet6 r.more6 more.inet6 c6 r.inet6 in
+    let found = seam plans.inet.commands r.more more.inet.commands c r.inet in
+    let found6 = seam plans.inet6.commands r.more6 more.inet6.commands c6 r.inet6 in
     record {
       more = c ∷ r.more;
       more6 = c6 ∷ r.more6;
-      inet = r.inet ∙ append_assoc plans.inet (c ∷ []) r.more;
-      inet6 = r.inet6 ∙ append_assoc plans.inet6 (c6 ∷ []) r.more6;
+      inet = r.inet ∙ append_assoc plans.inet.commands (c ∷ []) r.more;
+      inet6 = r.inet6 ∙ append_assoc plans.inet6.commands (c6 ∷ []) r.more6;
       few = omega (arith, r.few);
-      rises = λ below h. then_rises below at (is_quiet c) (Some (length plans.inet)) (Some (length plans.inet6)) more.lines h (r.rises at (omega arith));
-      fits = then_fits more.inet more.inet6 (lengths plans) at (is_quiet c) (Some (length plans.inet)) (Some (length plans.inet6)) more.lines (both_fit more.inet more.inet6 (lengths plans) at (length plans.inet) (length plans.inet6) s refl refl found found6) later;
+      rises = λ below h. then_rises below at (is_quiet c) (Some (length plans.inet.commands)) (Some (length plans.inet6.commands)) more.lines h (r.rises at (omega arith));
+      fits = then_fits more.inet more.inet6 (lengths plans) at (is_quiet c) (Some (length plans.inet.commands)) (Some (length plans.inet6.commands)) more.lines (both_fit more.inet more.inet6 (lengths plans) at (length plans.inet.commands) (length plans.inet6.commands) s refl refl found found6) later;
     }
 behind_line at plans (Get4 addr flow) more is r =
     record { more = r.more; more6 = r.more6; inet = r.inet; inet6 = r.inet6; few = omega (arith, r.few); rises = λ below h. (h, r.rises at (omega arith)); fits = (refl, r.fits) }
@@ -146,7 +147,7 @@ behind_answer at plans (Ok asked) below script is later e = below_line (below (p
 pub lines_follow : (at : ℕ) (plans : Plans) (texts : List (List ℕ)) (script : Reading) → lines_from at plans texts ≡ Ok script → Follows at plans script
 lines_follow at plans [] script e =
     subst (λ (o : Result Reading LineFault). IfFollows at plans o) e
-    (record { more = []; more6 = []; inet = sym (append-nil plans.inet); inet6 = sym (append-nil plans.inet6); few = omega arith; rises = λ below h. tt; fits = (refl, refl) })
+    (record { more = []; more6 = []; inet = sym (append-nil plans.inet.commands); inet6 = sym (append-nil plans.inet6.commands); few = omega arith; rises = λ below h. tt; fits = (refl, refl) })
 lines_follow at plans (text ∷ texts) script e =
     let later = λ (behind : Plans) (more : Reading) (f : lines_from (at + 1) behind texts ≡ Ok more). lines_follow (at + 1) behind texts more f in
     behind_answer at plans (asked_of at text) (λ behind. lines_from (at + 1) behind texts) script (asked_at at text) later e
@@ -168,7 +169,7 @@ read_is_script texts rest number plans front script so_far ended inet inet6 line
 -- ---- for a walk over the lines of a script
 
 -- the line of a number, and the lines behind it, from positions that the lines fit
-pub fits_step : (plan : List (Command 32)) (plan6 : List (Command 128)) (at : Positions) (lines : List Line) (i : ℕ) (here : Line) → slice_get lines i ≡ Some here → Fits plan plan6 at (drop i lines) → FitsLine plan plan6 at here × Fits plan plan6 (positions_behind at here) (drop (i + 1) lines)
+pub fits_step : (plan : Planned 32) (plan6 : Planned 128) (at : Positions) (lines : List Line) (i : ℕ) (here : Line) → slice_get lines i ≡ Some here → Fits plan plan6 at (drop i lines) → FitsLine plan plan6 at here × Fits plan plan6 (positions_behind at here) (drop (i + 1) lines)
 fits_step plan plan6 at lines i here e fits =
     let first = drop_more lines i here (slice_get_within lines i here e) in
     let same = get_or_from_slice_get lines i here here e in
@@ -176,22 +177,22 @@ fits_step plan plan6 at lines i here e fits =
     (at_first.0, at_first.1)
 
 -- the position of a command is inside its plan
-pub has_at_inside : {w : ℕ} (plan : List (Command w)) (pos : ℕ) (test : Command w → Bool) → HasAt plan pos test → pos < length plan
-has_at_inside {w} plan pos test has = there (slice_get plan pos) refl has
+pub has_at_inside : {w : ℕ} (plan : Planned w) (pos : ℕ) (test : Command w → Bool) → HasAt plan pos test → pos < length plan.commands
+has_at_inside {w} plan pos test has = there (slice_get plan.commands pos) refl has
   where
-    there : (o : Option (Command w)) → slice_get plan pos ≡ o → MatchOption o ⊥ (λ c. test c ≡ true) → pos < length plan
+    there : (o : Option (Command w)) → slice_get plan.commands pos ≡ o → MatchOption o ⊥ (λ c. test c ≡ true) → pos < length plan.commands
     there None e has = absurd has
-    there (Some c) e has = slice_get_within plan pos c e
+    there (Some c) e has = slice_get_within plan.commands pos c e
 
 -- a line's commands are there
 line_has : (script : Reading) (at : Positions) (here : Line) → FitsLine script.inet script.inet6 at here → HasCommands script here
 line_has script at (line.Change number (Some pos) None) fits = (has_at_inside script.inet pos (λ c. not (is_quiet c)) fits.1, tt)
 line_has script at (line.Change number None (Some pos)) fits = (tt, has_at_inside script.inet6 pos (λ c. not (is_quiet c)) fits.1)
-line_has script at (line.Change number (Some pos) (Some pos6)) fits = (slice_get_within script.inet pos _ fits.2.inet, slice_get_within script.inet6 pos6 _ fits.2.inet6)
+line_has script at (line.Change number (Some pos) (Some pos6)) fits = (slice_get_within script.inet.commands pos _ fits.2.inet, slice_get_within script.inet6.commands pos6 _ fits.2.inet6)
 line_has script at (line.Change number None None) fits = absurd fits
 line_has script at (line.Quiet number (Some pos) None) fits = (has_at_inside script.inet pos is_algo fits.1, tt)
 line_has script at (line.Quiet number None (Some pos)) fits = (tt, has_at_inside script.inet6 pos is_algo fits.1)
-line_has script at (line.Quiet number (Some pos) (Some pos6)) fits = (slice_get_within script.inet pos _ fits.2.inet, slice_get_within script.inet6 pos6 _ fits.2.inet6)
+line_has script at (line.Quiet number (Some pos) (Some pos6)) fits = (slice_get_within script.inet.commands pos _ fits.2.inet, slice_get_within script.inet6.commands pos6 _ fits.2.inet6)
 line_has script at (line.Quiet number None None) fits = absurd fits
 line_has script at (line.Get4 number addr flow before) fits = tt
 line_has script at (line.Get6 number addr flow before) fits = tt

@@ -21,7 +21,7 @@ use Rattle.route_lang.proofs.CommandLemmas.{IsAsked, asked_words}
 use Rattle.route_lang.specs.declared.asked.Asked.{Asked}
 use Rattle.route_lang.specs.declared.asked.Asked.TheVariants.{Nothing, Inet, Inet6, Both, Get4, Get6}
 use Rattle.route_lang.specs.declared.asked.Shared.TheVariants as shared
-use Rattle.route_lang.specs.declared.script.TheConstants.{LINE_MAX}
+use Rattle.route_lang.specs.Limits.{line_limit}
 
 -- ---- addresses
 
@@ -126,22 +126,22 @@ target_length w kind.Direct p family are = omega (arith, settings_length p are)
 target_length w kind.Blackhole p family are = omega arith
 target_length w kind.Reject p family are = omega arith
 
-route_length : (w : ℕ) (name family_name : List ℕ) (b : Block) (p : WeightedHop) → length name ≤ 6 → length family_name ≤ 6 → IsFamilyWidth w → IsBlock w b → IsPath w p → length (joined (name ∷ family_name ∷ prefix_text w b ∷ target_words w p.nexthop.kind p)) ≤ LINE_MAX
+route_length : (w : ℕ) (name family_name : List ℕ) (b : Block) (p : WeightedHop) → length name ≤ 6 → length family_name ≤ 6 → IsFamilyWidth w → IsBlock w b → IsPath w p → length (joined (name ∷ family_name ∷ prefix_text w b ∷ target_words w p.nexthop.kind p)) ≤ line_limit
 route_length w name family_name b p short short_family family is path =
     omega (arith, length-append name (spaced (family_name ∷ prefix_text w b ∷ target_words w p.nexthop.kind p)), word_length family_name (prefix_text w b ∷ target_words w p.nexthop.kind p), word_length (prefix_text w b) (target_words w p.nexthop.kind p), prefix_length w b family is, target_length w p.nexthop.kind p family path.settings)
 
-delete_length : (w : ℕ) (family_name : List ℕ) (b : Block) (g : Option ℕ) → length family_name ≤ 6 → IsFamilyWidth w → IsBlock w b → length (joined (codes "delete" ∷ family_name ∷ prefix_text w b ∷ gateway_words w g)) ≤ LINE_MAX
+delete_length : (w : ℕ) (family_name : List ℕ) (b : Block) (g : Option ℕ) → length family_name ≤ 6 → IsFamilyWidth w → IsBlock w b → length (joined (codes "delete" ∷ family_name ∷ prefix_text w b ∷ gateway_words w g)) ≤ line_limit
 delete_length w family_name b None short family is =
     omega (arith, length-append (codes "delete") (spaced (family_name ∷ prefix_text w b ∷ [])), word_length family_name (prefix_text w b ∷ []), word_length (prefix_text w b) [], prefix_length w b family is)
 delete_length w family_name b (Some g) short family is =
     omega (arith, length-append (codes "delete") (spaced (family_name ∷ prefix_text w b ∷ address_text w g ∷ [])), word_length family_name (prefix_text w b ∷ address_text w g ∷ []), word_length (prefix_text w b) (address_text w g ∷ []), word_length (address_text w g) [], prefix_length w b family is, address_length w g family)
 
-get_length : (w : ℕ) (family_name : List ℕ) (a f : ℕ) → length family_name ≤ 6 → IsFamilyWidth w → f < 2 ^ 32 → length (joined (codes "get" ∷ family_name ∷ address_text w a ∷ option_words (codes "flow") 0 f)) ≤ LINE_MAX
+get_length : (w : ℕ) (family_name : List ℕ) (a f : ℕ) → length family_name ≤ 6 → IsFamilyWidth w → f < 2 ^ 32 → length (joined (codes "get" ∷ family_name ∷ address_text w a ∷ option_words (codes "flow") 0 f)) ≤ line_limit
 get_length w family_name a f short family small =
     omega (arith, length-append (codes "get") (spaced (family_name ∷ address_text w a ∷ option_words (codes "flow") 0 f)), word_length family_name (address_text w a ∷ option_words (codes "flow") 0 f), word_length (address_text w a) (option_words (codes "flow") 0 f), address_length w a family, option_length (codes "flow") 0 f small (omega arith))
 
 -- no line that is spelled of what is asked is too long
-pub asked_short : (asked : Asked) → IsAsked asked → length (joined (asked_words asked)) ≤ LINE_MAX
+pub asked_short : (asked : Asked) → IsAsked asked → length (joined (asked_words asked)) ≤ line_limit
 asked_short Nothing is = omega arith
 asked_short (Inet (command.Add b p)) is = route_length 32 (codes "add") (codes "-inet") b p (omega arith) (omega arith) (inl refl) is.0 is.1
 asked_short (Inet (command.Change b p)) is = route_length 32 (codes "change") (codes "-inet") b p (omega arith) (omega arith) (inl refl) is.0 is.1

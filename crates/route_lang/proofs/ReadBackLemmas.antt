@@ -6,6 +6,7 @@ use Rattle.std.proofs.lemmas.List.Concat.{flat_map-cons}
 use Rattle.rib_store.specs.declared.command.Command.{Command}
 use Rattle.route_lang.specs.Text.{lines_of}
 use Rattle.route_lang.specs.Asked.{asked_of}
+use Rattle.rib_store.specs.Plan.{Planned}
 use Rattle.route_lang.specs.Script.{Reading, is_quiet, shared_command, command_line, plans_behind, entries_of, with_front, then_lines, lines_from, no_plans, script_of}
 use Rattle.route_lang.specs.Spelling.{words_if, words_at, line_words, command_words, shared_words, joined, spelled_line, spelled, numbered, numbered_from, renumbered, ShownTextReadsBack}
 use Rattle.route_lang.proofs.AskedLemmas.{IsAskedAt, asked_at}
@@ -21,7 +22,7 @@ use Rattle.route_lang.specs.declared.fault.Reason.TheVariants.{TooLarge}
 use Rattle.route_lang.specs.declared.line.Line.{Line}
 use Rattle.route_lang.specs.declared.line.Line.TheVariants as line
 use Rattle.route_lang.specs.declared.script.Plans.{Plans}
-use Rattle.route_lang.specs.declared.script.TheConstants.{INPUT_MAX, LINES_MAX}
+use Rattle.route_lang.specs.Limits.{input_limit, lines_limit}
 
 -- the script whose lines are spelled
 module _ (whole : Reading) where
@@ -48,7 +49,7 @@ module _ (whole : Reading) where
       ∙ line_cut text rest (taken-joined (line_words whole here) are) ∙ ap (λ ts. text ∷ ts) later
 
   -- one line, of these words
-  line_reads : (n : ℕ) (plans : Plans) (asked : Asked) (here : Line) (lines : List Line) → n ≤ LINES_MAX → IsAsked asked → line_words whole here ≡ asked_words asked → entries_of n plans asked ≡ numbered n here ∷ []
+  line_reads : (n : ℕ) (plans : Plans) (asked : Asked) (here : Line) (lines : List Line) → n ≤ lines_limit → IsAsked asked → line_words whole here ≡ asked_words asked → entries_of n plans asked ≡ numbered n here ∷ []
       → lines_from (n + 1) (plans_behind plans asked) (texts_of lines) ≡ read (numbered_from (n + 1) lines) → lines_from n plans (texts_of (here ∷ lines)) ≡ read (numbered_from n (here ∷ lines))
   line_reads n plans asked here lines few is words entries later =
       let asks : asked_of n (joined (line_words whole here)) ≡ Ok asked = rw words ((asks_same asked is).1 n few (asked_short asked is)) in
@@ -78,24 +79,24 @@ module _ (whole : Reading) where
       → ReadBack (at + 1) (plans_behind plans asked) more.lines → ReadBack at plans (entries_of at plans asked ++ more.lines)
   asked_back at plans Nothing more is f inet inet6 r = record { texts = r.texts; reads = λ n few. r.reads n (omega arith) }
   asked_back at plans (Inet c) more is f inet inet6 r =
-      let pos : Option ℕ = Some (length plans.inet) in
-      let found = seam plans.inet f.more whole.inet c (sym inet ∙ f.inet) in
+      let pos : Option ℕ = Some (length plans.inet.commands) in
+      let found = seam plans.inet.commands f.more whole.inet.commands c (ap (λ (p : Planned 32). p.commands) (sym inet) ∙ f.inet) in
       let words = words_of_line (is_quiet c) at pos None ∙ ap (words_if command_words) found in
       more_reads at plans (Inet c) (command_line (is_quiet c) at pos None) more.lines is words (λ n. one_line (command_line (is_quiet c) n pos None) (numbered n (command_line (is_quiet c) at pos None)) (numbered_line (is_quiet c) n at pos None)) r
   asked_back at plans (Inet6 c) more is f inet inet6 r =
-      let pos : Option ℕ = Some (length plans.inet6) in
-      let found = seam plans.inet6 f.more6 whole.inet6 c (sym inet6 ∙ f.inet6) in
+      let pos : Option ℕ = Some (length plans.inet6.commands) in
+      let found = seam plans.inet6.commands f.more6 whole.inet6.commands c (ap (λ (p : Planned 128). p.commands) (sym inet6) ∙ f.inet6) in
       let words = words_of_line (is_quiet c) at None pos ∙ ap (words_if command_words) found in
       more_reads at plans (Inet6 c) (command_line (is_quiet c) at None pos) more.lines is words (λ n. one_line (command_line (is_quiet c) n None pos) (numbered n (command_line (is_quiet c) at None pos)) (numbered_line (is_quiet c) n at None pos)) r
   asked_back at plans (Both s) more is f inet inet6 r =
       let c : Command 32 = shared_command s in
-      let pos : Option ℕ = Some (length plans.inet) in
-      let pos6 : Option ℕ = Some (length plans.inet6) in
-      let found = seam plans.inet f.more whole.inet c (sym inet ∙ f.inet) in
+      let pos : Option ℕ = Some (length plans.inet.commands) in
+      let pos6 : Option ℕ = Some (length plans.inet6.commands) in
+      let found = seam plans.inet.commands f.more whole.inet.commands c (ap (λ (p : Planned 32). p.commands) (sym inet) ∙ f.inet) in
       let words = words_of_line (is_quiet c) at pos pos6 ∙ ap (words_if shared_words) found in
       more_reads at plans (Both s) (command_line (is_quiet c) at pos pos6) more.lines is words (λ n. one_line (command_line (is_quiet c) n pos pos6) (numbered n (command_line (is_quiet c) at pos pos6)) (numbered_line (is_quiet c) n at pos pos6)) r
-  asked_back at plans (Get4 a flow) more is f inet inet6 r = more_reads at plans (Get4 a flow) (line.Get4 at a flow (length plans.inet)) more.lines is refl (λ n. refl) r
-  asked_back at plans (Get6 a flow) more is f inet inet6 r = more_reads at plans (Get6 a flow) (line.Get6 at a flow (length plans.inet6)) more.lines is refl (λ n. refl) r
+  asked_back at plans (Get4 a flow) more is f inet inet6 r = more_reads at plans (Get4 a flow) (line.Get4 at a flow (length plans.inet.commands)) more.lines is refl (λ n. refl) r
+  asked_back at plans (Get6 a flow) more is f inet inet6 r = more_reads at plans (Get6 a flow) (line.Get6 at a flow (length plans.inet6.commands)) more.lines is refl (λ n. refl) r
 
   -- the same of an answer that is a script of the same plans
   abbrev IfReadBack : ℕ → Plans → Result Reading LineFault → Type 0
@@ -117,17 +118,17 @@ module _ (whole : Reading) where
       let later = λ (behind : Plans). lines_back (at + 1) behind texts in
       answer_back at plans (asked_of at text) (λ behind. lines_from (at + 1) behind texts) (asked_at at text) (λ behind more e. lines_follow (at + 1) behind texts more e) later
 
-  whole_back : (texts : List (List ℕ)) → lines_from 1 no_plans texts ≡ Ok whole → length (spelled whole) ≤ INPUT_MAX → script_of (spelled whole) ≡ Ok (renumbered whole)
+  whole_back : (texts : List (List ℕ)) → lines_from 1 no_plans texts ≡ Ok whole → length (spelled whole) ≤ input_limit → script_of (spelled whole) ≡ Ok (renumbered whole)
   whole_back texts e few =
       let r = subst (IfReadBack 1 no_plans) e (lines_back 1 no_plans texts) refl refl in
-      let small : nat_lt INPUT_MAX (length (spelled whole)) ≡ false = too_many (length (spelled whole)) few in
+      let small : nat_lt input_limit (length (spelled whole)) ≡ false = too_many (length (spelled whole)) few in
       rw small (ap (lines_from 1 no_plans) r.texts ∙ r.reads 1 (omega arith))
     where
-      too_many : (n : ℕ) → n ≤ INPUT_MAX → nat_lt INPUT_MAX n ≡ false
+      too_many : (n : ℕ) → n ≤ input_limit → nat_lt input_limit n ≡ false
       too_many n few = grind (arith, nat_tests)
 
 pub shown_text_reads_back : ShownTextReadsBack
-shown_text_reads_back bytes script e few = small (nat_lt INPUT_MAX (length bytes)) e
+shown_text_reads_back bytes script e few = small (nat_lt input_limit (length bytes)) e
   where
     small : (large : Bool) → cond large (Err (record { line = 0; reason = TooLarge })) (lines_from 1 no_plans (lines_of bytes)) ≡ Ok script → script_of (spelled script) ≡ Ok (renumbered script)
     small true e = cc

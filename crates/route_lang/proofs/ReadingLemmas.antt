@@ -2,6 +2,7 @@
 use Rattle.std.proofs.Common.{◌≡◌, ◌∙◌, ℕ, ◌+◌, ◌-◌, ◌≤◌, List, [], ◌∷◌, ◌++◌, Ok, Err, Result, length, refl, ap, arith, append_assoc, length-append}
 use Rattle.std.specs.Prelude.{OnOk}
 use Rattle.rib_store.specs.declared.command.Command.{Command}
+use Rattle.rib_store.specs.Plan.{Planned, plan_with}
 use Rattle.route_lang.specs.declared.asked.Asked.{Asked}
 use Rattle.route_lang.specs.declared.asked.Asked.TheVariants.{Nothing, Inet, Inet6, Both, Get4, Get6}
 use Rattle.route_lang.specs.declared.line.Line.{Line}
@@ -20,8 +21,8 @@ takes_line at text plans front asked e below =
     front_joined front (entries_of at plans asked) (lines_from (at + 1) (plans_behind plans asked) below)
     ∙ rw e refl
 
-one_more : {w : ℕ} (plan : List (Command w)) (c : Command w) (n : ℕ) → 1 ≤ n → length plan ≤ n - 1 → length (plan ++ c ∷ []) ≤ n
-one_more plan c n some few = omega (arith, length-append plan (c ∷ []))
+one_more : {w : ℕ} (plan : Planned w) (c : Command w) (n : ℕ) → 1 ≤ n → length plan.commands ≤ n - 1 → length (plan_with plan c).commands ≤ n
+one_more plan c n some few = omega (arith, length-append plan.commands (c ∷ []))
 
 -- a line puts one command at most behind each plan
 pub room_behind : (n : ℕ) (plans : Plans) (asked : Asked) → 1 ≤ n → HasAtMost (n - 1) plans → HasAtMost n (plans_behind plans asked)

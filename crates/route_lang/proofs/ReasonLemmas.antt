@@ -1,12 +1,15 @@
 -- No line is refused as too large: that is said of the whole input alone.
-use Rattle.std.proofs.Common.{◌≡◌, ℕ, ◌+◌, ◌<◌, ◌≤◌, Bool, true, false, List, [], ◌∷◌, Option, Some, None, Result, Ok, Err, cond, length, nat_lt, ltb-true, refl, subst, arith}
+use Rattle.std.proofs.Common.{◌≡◌, ℕ, ◌+◌, ◌<◌, ◌≤◌, Bool, true, false, List, [], ◌∷◌, Option, Some, None, Result, Ok, Err, cond, length, nat_lt, ltb-true, ltb-false, refl, subst, arith}
 use Rattle.rib_store.specs.declared.command.Command.{Command}
 use Rattle.route_lang.specs.declared.asked.Asked.{Asked}
+use Rattle.std.specs.Prelude.{IsErrOf}
 use Rattle.route_lang.specs.declared.fault.LineFault.{LineFault}
+use Rattle.route_lang.specs.declared.fault.ScriptError.{ScriptError}
+use Rattle.route_lang.specs.declared.fault.ScriptError.TheVariants as script_error
 use Rattle.route_lang.specs.declared.fault.Reason.{Reason}
 use Rattle.route_lang.specs.declared.fault.Reason.TheVariants as reason
 use Rattle.route_lang.specs.declared.script.Plans.{Plans}
-use Rattle.route_lang.specs.declared.script.TheConstants.{INPUT_MAX, LINES_MAX, LINE_MAX}
+use Rattle.route_lang.specs.Limits.{input_limit, lines_limit, line_limit}
 use Rattle.route_lang.specs.Text.{lines_of, words_of}
 use Rattle.route_lang.specs.declared.verb.Verb.{Verb}
 use Rattle.route_lang.specs.declared.verb.Verb.TheVariants as verb
@@ -18,7 +21,7 @@ use Rattle.route_lang.specs.Walk.{Met, with_flag, with_value, with_parsed, witho
 use Rattle.addr_text.specs.PrefixText.{block_of}
 use Rattle.route_lang.specs.Verb.{token_of, bare_words}
 use Rattle.route_lang.specs.Asked.{or_reason, destination_of, agreeing, agrees, gateway_of, gateway_by, address_asked, leading, path_by, path_of, path_asked, add_of, change_of, delete_of, setting_asked, algo_of, tick_of, get_of, in_family, flush_of, asked_by, by_verb, by_command, by_words, asked_of, from_command}
-use Rattle.route_lang.specs.Script.{Reading, then_lines, with_front, lines_from, no_plans, script_of, plans_behind, entries_of}
+use Rattle.route_lang.specs.Script.{Reading, GivesScript, input_too_large, then_lines, with_front, lines_from, no_plans, script_of, plans_behind, entries_of}
 
 -- a reason for which a line may be refused
 abbrev pub IsOfLine : Reason → Type 0
@@ -176,8 +179,8 @@ worded line (first ∷ words) = either _ _ _ (fine _) (either _ _ _ (commanded (
 
 line_asked : (at : ℕ) (line : List ℕ) → OfLine (asked_of at line)
 line_asked at line =
-    either (nat_lt LINES_MAX at) (Err reason.TooManyLines) _ (bad _ reason.TooManyLines tt)
-    (either (nat_lt LINE_MAX (length line)) (Err reason.LineTooLong) (by_words line (words_of line)) (bad _ reason.LineTooLong tt) (worded line (words_of line)))
+    either (nat_lt lines_limit at) (Err reason.TooManyLines) _ (bad _ reason.TooManyLines tt)
+    (either (nat_lt line_limit (length line)) (Err reason.LineTooLong) (by_words line (words_of line)) (bad _ reason.LineTooLong tt) (worded line (words_of line)))
 
 abbrev FaultOfLine : Result Reading LineFault → Type 0
 FaultOfLine (Ok reading) = Unit {0}
@@ -198,9 +201,19 @@ fault_of_line at plans (text ∷ lines) =
     line_first at plans (asked_of at text) (λ behind. lines_from (at + 1) behind lines) (line_asked at text) (λ behind. fault_of_line (at + 1) behind lines)
 
 -- bytes within the limit are refused for a reason of their line
-pub reason_of_line : (bytes : List ℕ) (fault : LineFault) → length bytes ≤ INPUT_MAX → script_of bytes ≡ Err fault → IsOfLine fault.reason
-reason_of_line bytes fault few e = by_length (nat_lt INPUT_MAX (length bytes)) refl e
+pub reason_of_line : (bytes : List ℕ) (fault : LineFault) → length bytes ≤ input_limit → script_of bytes ≡ Err fault → IsOfLine fault.reason
+reason_of_line bytes fault few e = by_length (nat_lt input_limit (length bytes)) refl e
   where
-    by_length : (large : Bool) → nat_lt INPUT_MAX (length bytes) ≡ large → cond large (Err (record { line = 0; reason = reason.TooLarge })) (lines_from 1 no_plans (lines_of bytes)) ≡ Err fault → IsOfLine fault.reason
-    by_length true large e = let past : INPUT_MAX < length bytes = ltb-true INPUT_MAX (length bytes) large in absurd (omega arith)
+    by_length : (large : Bool) → nat_lt input_limit (length bytes) ≡ large → cond large (Err (record { line = 0; reason = reason.TooLarge })) (lines_from 1 no_plans (lines_of bytes)) ≡ Err fault → IsOfLine fault.reason
+    by_length true large e = let past : input_limit < length bytes = ltb-true input_limit (length bytes) large in absurd (omega arith)
     by_length false large e = subst FaultOfLine e (fault_of_line 1 no_plans (lines_of bytes))
+
+-- the fault of bytes that are too many is told of no others
+pub only_too_large : (bytes : List ℕ) (r : Result Reading ScriptError) → GivesScript r (script_of bytes) → IsErrOf r (script_error.Fault input_too_large) → input_limit < length bytes
+only_too_large bytes r gives told =
+    let P : Result Reading ScriptError → Type 0 = λ answer. GivesScript answer (script_of bytes) in
+    by_length (nat_lt input_limit (length bytes)) refl (subst P told gives)
+  where
+    by_length : (large : Bool) → nat_lt input_limit (length bytes) ≡ large → script_of bytes ≡ Err input_too_large → input_limit < length bytes
+    by_length true large e = ltb-true input_limit (length bytes) large
+    by_length false small e = absurd (reason_of_line bytes input_too_large (ltb-false input_limit (length bytes) small) e)

@@ -23,7 +23,7 @@ use Rattle.route_lang.specs.declared.verb.Flag.TheVariants as flag
 use Rattle.route_lang.specs.declared.asked.Asked.{Asked}
 use Rattle.route_lang.specs.declared.asked.Asked.TheVariants.{Nothing, Inet, Inet6, Both, Get4, Get6}
 use Rattle.route_lang.specs.declared.asked.Shared.TheVariants as shared
-use Rattle.route_lang.specs.declared.script.TheConstants.{LINES_MAX, LINE_MAX}
+use Rattle.route_lang.specs.Limits.{lines_limit, line_limit}
 use Rattle.route_lang.specs.Text.{is_blank, words_of}
 use Rattle.route_lang.specs.Verb.{verb_of}
 use Rattle.route_lang.specs.Walk.{Met, nothing_met, walk_from, ◌>>=◌}
@@ -211,6 +211,6 @@ by_words line (first ∷ words) =
 -- what the line of a number asks for, or the first reason against it
 abbrev pub asked_of : ℕ → List ℕ → Result Asked Reason
 asked_of at line =
-    if nat_lt LINES_MAX at then Err TooManyLines
-    else if nat_lt LINE_MAX (length line) then Err LineTooLong
+    if nat_lt lines_limit at then Err TooManyLines
+    else if nat_lt line_limit (length line) then Err LineTooLong
     else by_words line (words_of line)

@@ -2,11 +2,12 @@
 use Rattle.std.specs.Prelude.{◌≡◌, ℕ, ◌+◌, ◌<◌, ◌≤◌, Bool, true, false, not, List, [], ◌∷◌, length, slice_get, Option, Some, None, IfSome, MatchOption}
 use Rattle.rib_store.specs.declared.command.Command.{Command}
 use Rattle.rib_store.specs.declared.command.Command.TheVariants as command
+use Rattle.rib_store.specs.Plan.{Planned}
 use Rattle.route_lang.specs.Script.{Reading, is_quiet, shared_command}
 use Rattle.route_lang.specs.declared.asked.Shared.{Shared}
 use Rattle.route_lang.specs.declared.line.Line.{Line}
 use Rattle.route_lang.specs.declared.line.Line.TheVariants.{Change, Quiet, Get4, Get6}
-use Rattle.route_lang.specs.declared.script.TheConstants.{LINES_MAX}
+use Rattle.route_lang.specs.Limits.{lines_limit}
 
 -- ---- numbers
 
@@ -51,18 +52,18 @@ is_algo (command.Algo setting) = true
 is_algo c = false
 
 -- the command of a position is there, and passes a test
-abbrev pub HasAt : {w : ℕ} → List (Command w) → ℕ → (Command w → Bool) → Type 0
-HasAt plan pos test = MatchOption (slice_get plan pos) ⊥ (λ c. test c ≡ true)
+abbrev pub HasAt : {w : ℕ} → Planned w → ℕ → (Command w → Bool) → Type 0
+HasAt plan pos test = MatchOption (slice_get plan.commands pos) ⊥ (λ c. test c ≡ true)
 
 -- the commands of two positions are one that both families get: quiet, or a flush
-pub record IsShared (plan : List (Command 32)) (plan6 : List (Command 128)) (pos pos6 : ℕ) (quiet : Bool) : Type 0 where
+pub record IsShared (plan : Planned 32) (plan6 : Planned 128) (pos pos6 : ℕ) (quiet : Bool) : Type 0 where
   pub shared : Shared
   pub kind : is_quiet {w = 32} (shared_command shared) ≡ quiet
-  pub inet : slice_get plan pos ≡ Some (shared_command shared)
-  pub inet6 : slice_get plan6 pos6 ≡ Some (shared_command shared)
+  pub inet : slice_get plan.commands pos ≡ Some (shared_command shared)
+  pub inet6 : slice_get plan6.commands pos6 ≡ Some (shared_command shared)
 
 -- a line behind so many commands of the plans has their next ones, of its kind; a get stands where it says
-abbrev pub FitsLine : List (Command 32) → List (Command 128) → Positions → Line → Type 0
+abbrev pub FitsLine : Planned 32 → Planned 128 → Positions → Line → Type 0
 FitsLine plan plan6 at (Change number (Some pos) None) = (pos ≡ at.inet) × HasAt plan pos (λ c. not (is_quiet c))
 FitsLine plan plan6 at (Change number None (Some pos)) = (pos ≡ at.inet6) × HasAt plan6 pos (λ c. not (is_quiet c))
 FitsLine plan plan6 at (Change number (Some pos) (Some pos6)) = (pos ≡ at.inet) × (pos6 ≡ at.inet6) × IsShared plan plan6 pos pos6 false
@@ -76,18 +77,18 @@ FitsLine plan plan6 at (Get6 number addr flow before) = before ≡ at.inet6
 
 -- the positions of a line are those of commands
 abbrev pub HasCommands : Reading → Line → Type 0
-HasCommands script (Change number inet inet6) = IfSome inet (λ pos. pos < length script.inet) × IfSome inet6 (λ pos. pos < length script.inet6)
-HasCommands script (Quiet number inet inet6) = IfSome inet (λ pos. pos < length script.inet) × IfSome inet6 (λ pos. pos < length script.inet6)
+HasCommands script (Change number inet inet6) = IfSome inet (λ pos. pos < length script.inet.commands) × IfSome inet6 (λ pos. pos < length script.inet6.commands)
+HasCommands script (Quiet number inet inet6) = IfSome inet (λ pos. pos < length script.inet.commands) × IfSome inet6 (λ pos. pos < length script.inet6.commands)
 HasCommands script (Get4 number addr flow before) = Unit {0}
 HasCommands script (Get6 number addr flow before) = Unit {0}
 
 -- the lines in turn have all commands that are left
-abbrev pub Fits : List (Command 32) → List (Command 128) → Positions → List Line → Type 0
-Fits plan plan6 at [] = (at.inet ≡ length plan) × (at.inet6 ≡ length plan6)
+abbrev pub Fits : Planned 32 → Planned 128 → Positions → List Line → Type 0
+Fits plan plan6 at [] = (at.inet ≡ length plan.commands) × (at.inet6 ≡ length plan6.commands)
 Fits plan plan6 at (line ∷ lines) = FitsLine plan plan6 at line × Fits plan plan6 (positions_behind at line) lines
 
 -- what every script keeps
 pub record IsScript (script : Reading) : Type 0 where
-  pub few : length script.lines ≤ LINES_MAX
+  pub few : length script.lines ≤ lines_limit
   pub rises : Rises 0 script.lines
   pub fits : Fits script.inet script.inet6 no_commands script.lines

@@ -3,6 +3,7 @@
 use Rattle.std.specs.Prelude.{◌≡◌, ◌≤◌, ℕ, ◌+◌, Bool, true, false, nat_lt, List, [], ◌∷◌, ◌++◌, length, Option, Some, None, Result, Ok, Err, if◌then◌else◌}
 use Rattle.rib_store.specs.declared.command.Command.{Command}
 use Rattle.rib_store.specs.declared.command.Command.TheVariants as command
+use Rattle.rib_store.specs.Plan.{Planned, plan_with}
 use Rattle.route_lang.specs.Text.{lines_of}
 use Rattle.route_lang.specs.Asked.{asked_of}
 use Rattle.route_lang.specs.declared.asked.Asked.{Asked}
@@ -17,12 +18,12 @@ use Rattle.route_lang.specs.declared.fault.Reason.TheVariants.{TooLarge}
 use Rattle.route_lang.specs.declared.fault.ScriptError.{ScriptError}
 use Rattle.route_lang.specs.declared.fault.ScriptError.TheVariants as script_error
 use Rattle.route_lang.specs.declared.script.Plans.{Plans}
-use Rattle.route_lang.specs.declared.script.TheConstants.{INPUT_MAX}
+use Rattle.route_lang.specs.Limits.{input_limit}
 
 -- what a script is seen as: the plan of each family, and the lines in their order
 pub record Reading : Type 0 where
-  pub inet : List (Command 32)
-  pub inet6 : List (Command 128)
+  pub inet : Planned 32
+  pub inet6 : Planned 128
   pub lines : List Line
 
 -- ---- what a line adds
@@ -36,9 +37,9 @@ shared_command shared.Sync = command.Sync
 -- the plans with what a line asks for behind them
 abbrev pub plans_behind : Plans → Asked → Plans
 plans_behind plans Nothing = plans
-plans_behind plans (Inet c) = record plans { inet = plans.inet ++ c ∷ [] }
-plans_behind plans (Inet6 c) = record plans { inet6 = plans.inet6 ++ c ∷ [] }
-plans_behind plans (Both s) = record plans { inet = plans.inet ++ shared_command s ∷ []; inet6 = plans.inet6 ++ shared_command s ∷ [] }
+plans_behind plans (Inet c) = record plans { inet = plan_with plans.inet c }
+plans_behind plans (Inet6 c) = record plans { inet6 = plan_with plans.inet6 c }
+plans_behind plans (Both s) = record plans { inet = plan_with plans.inet (shared_command s); inet6 = plan_with plans.inet6 (shared_command s) }
 plans_behind plans (Get4 addr flow) = plans
 plans_behind plans (Get6 addr flow) = plans
 
@@ -56,11 +57,11 @@ command_line quiet at inet inet6 = if quiet then line.Quiet at inet inet6 else l
 -- what a line puts behind the lines, where these plans stand before it
 abbrev pub entries_of : ℕ → Plans → Asked → List Line
 entries_of at plans Nothing = []
-entries_of at plans (Inet c) = command_line (is_quiet c) at (Some (length plans.inet)) None ∷ []
-entries_of at plans (Inet6 c) = command_line (is_quiet c) at None (Some (length plans.inet6)) ∷ []
-entries_of at plans (Both s) = command_line (is_quiet {w = 32} (shared_command s)) at (Some (length plans.inet)) (Some (length plans.inet6)) ∷ []
-entries_of at plans (Get4 addr flow) = line.Get4 at addr flow (length plans.inet) ∷ []
-entries_of at plans (Get6 addr flow) = line.Get6 at addr flow (length plans.inet6) ∷ []
+entries_of at plans (Inet c) = command_line (is_quiet c) at (Some (length plans.inet.commands)) None ∷ []
+entries_of at plans (Inet6 c) = command_line (is_quiet c) at None (Some (length plans.inet6.commands)) ∷ []
+entries_of at plans (Both s) = command_line (is_quiet {w = 32} (shared_command s)) at (Some (length plans.inet.commands)) (Some (length plans.inet6.commands)) ∷ []
+entries_of at plans (Get4 addr flow) = line.Get4 at addr flow (length plans.inet.commands) ∷ []
+entries_of at plans (Get6 addr flow) = line.Get6 at addr flow (length plans.inet6.commands) ∷ []
 
 -- ---- lines in turn
 
@@ -80,12 +81,16 @@ lines_from at plans [] = Ok (record { inet = plans.inet; inet6 = plans.inet6; li
 lines_from at plans (text ∷ lines) = then_lines at plans (asked_of at text) (λ behind. lines_from (at + 1) behind lines)
 
 abbrev pub no_plans : Plans
-no_plans = record { inet = []; inet6 = [] }
+no_plans = record { inet = record { commands = [] }; inet6 = record { commands = [] } }
 
--- the script of these bytes, or its first line that is refused; line 0 where they are too many
+-- the fault of bytes that are too many
+abbrev pub input_too_large : LineFault
+input_too_large = record { line = 0; reason = TooLarge }
+
+-- the script of these bytes, or its first line that is refused
 abbrev pub script_of : List ℕ → Result Reading LineFault
 script_of bytes =
-    if nat_lt INPUT_MAX (length bytes) then Err (record { line = 0; reason = TooLarge })
+    if nat_lt input_limit (length bytes) then Err input_too_large
     else lines_from 1 no_plans (lines_of bytes)
 
 -- what a reader answers is what the definition says, unless memory is wanting
@@ -107,4 +112,4 @@ RefusesLine at text plans fault = (below : List (List ℕ)) → lines_from at pl
 
 -- no more commands in either plan than this
 abbrev pub HasAtMost : ℕ → Plans → Type 0
-HasAtMost n plans = (length plans.inet ≤ n) × (length plans.inet6 ≤ n)
+HasAtMost n plans = (length plans.inet.commands ≤ n) × (length plans.inet6.commands ≤ n)

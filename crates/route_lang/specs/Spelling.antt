@@ -15,7 +15,7 @@ use Rattle.rib_store.specs.declared.command.Command.TheVariants as command
 use Rattle.route_lang.specs.Script.{Reading, script_of}
 use Rattle.route_lang.specs.declared.line.Line.{Line}
 use Rattle.route_lang.specs.declared.line.Line.TheVariants.{Change, Quiet, Get4, Get6}
-use Rattle.route_lang.specs.declared.script.TheConstants.{INPUT_MAX}
+use Rattle.route_lang.specs.Limits.{input_limit}
 
 -- ---- words of a command
 
@@ -75,9 +75,9 @@ words_if words (Some x) = words x
 
 -- the words of the command that stands at these positions of the plans
 abbrev pub words_at : Reading → Option ℕ → Option ℕ → List (List ℕ)
-words_at script (Some pos) None = words_if command_words (slice_get script.inet pos)
-words_at script None (Some pos) = words_if command_words (slice_get script.inet6 pos)
-words_at script (Some pos) (Some pos6) = words_if shared_words (slice_get script.inet pos)
+words_at script (Some pos) None = words_if command_words (slice_get script.inet.commands pos)
+words_at script None (Some pos) = words_if command_words (slice_get script.inet6.commands pos)
+words_at script (Some pos) (Some pos6) = words_if shared_words (slice_get script.inet.commands pos)
 words_at script None None = []
 
 abbrev pub line_words : Reading → Line → List (List ℕ)
@@ -131,4 +131,4 @@ renumbered script = record script { lines = numbered_from 1 script.lines }
 
 -- the spelled text of a script, where a script may be so long, reads as it with its lines numbered 1, 2, 3 and so on
 abbrev pub ShownTextReadsBack : Type 0
-ShownTextReadsBack = (bytes : List ℕ) (script : Reading) → script_of bytes ≡ Ok script → length (spelled script) ≤ INPUT_MAX → script_of (spelled script) ≡ Ok (renumbered script)
+ShownTextReadsBack = (bytes : List ℕ) (script : Reading) → script_of bytes ≡ Ok script → length (spelled script) ≤ input_limit → script_of (spelled script) ≡ Ok (renumbered script)

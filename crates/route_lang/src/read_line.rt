@@ -1,6 +1,7 @@
 ghost use Rattle.std.specs.Prelude.{◌≡◌, ◌∷◌, [], ◌≤◌, IfOk, OnOk, MatchOption};
 ghost use Rattle.std.specs.List.{list_all};
 ghost use Rattle.route_lang.specs.Asked.{asked_of, by_words, from_command, behind_ignored, is_comment, is_ignored, is_taken, HasOwnModule};
+ghost use Rattle.route_lang.specs.Limits.{lines_limit};
 ghost use Rattle.route_lang.specs.Text.{words_of};
 
 use crate::asked::{Asked, asked_by};
@@ -14,7 +15,7 @@ use crate::walk::{Walk, walk_on};
 pub(crate) fn read_line(number: u32, line: &[u8]) -> Result<Asked, Reason>
     ensures value { result ≡ asked_of number line.now }
     ensures module { IfOk result HasOwnModule }
-    ensures within { OnOk result (number ≤ LINES_MAX) }
+    ensures within { OnOk result (number ≤ lines_limit) }
 {
     if number > LINES_MAX {
         return Err(Reason::TooManyLines);

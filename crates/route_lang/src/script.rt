@@ -1,10 +1,11 @@
-ghost use Rattle.std.specs.Prelude.{◌≡◌, ◌<◌, ◌≤◌, ◌-◌, ◌∷◌, ◌++◌, [], OnOk, IfOk, IsErrOf, length};
+ghost use Rattle.std.specs.Prelude.{◌≡◌, ◌↔◌, ◌<◌, ◌≤◌, ◌-◌, ◌∷◌, ◌++◌, [], OnOk, IfOk, IsErrOf, length};
 ghost use Rattle.std.specs.Arc.{arc_value};
-ghost use Rattle.rib_store.specs.Plan.{IsWrongModule};
-ghost use Rattle.rib_store.specs.declared.plan.TheConstants.{PLAN_MAX};
+ghost use Rattle.rib_store.specs.Limits.{plan_max};
+ghost use Rattle.rib_store.specs.Plan.{IsWrongModule, plan_with};
 ghost use Rattle.route_lang.specs.Asked.{HasOwnModule};
 ghost use Rattle.route_lang.specs.Fits.{IsScript};
-ghost use Rattle.route_lang.specs.Script.{script_of, GivesScript, TakesLine, RefusesLine, HasAtMost, plans_behind, entries_of, shared_command, is_quiet, command_line, no_plans};
+ghost use Rattle.route_lang.specs.Limits.{input_limit, lines_limit};
+ghost use Rattle.route_lang.specs.Script.{input_too_large, script_of, GivesScript, TakesLine, RefusesLine, HasAtMost, plans_behind, entries_of, shared_command, is_quiet, command_line, no_plans};
 
 use crate::asked::{Asked, Shared};
 use crate::fault::{LineFault, Reason, ScriptError};
@@ -22,7 +23,7 @@ pub const INPUT_MAX: usize = 67_108_864;
 /// How many lines a script may have, blank lines and comments too.
 pub const LINES_MAX: u32 = 1_048_576;
 
-/// How many bytes a line may have without its end.
+/// How many bytes a line may have without its end, comments too.
 pub const LINE_MAX: usize = 255;
 
 /// What a script asks for: the commands of each family, and the lines that speak of them.
@@ -78,8 +79,10 @@ struct Plans {
 }
 
 /// The script that bytes are, or the first line that is refused and the first reason against it.
+/// Bytes that are too many are told before memory is wanted.
 pub fn read_script(alloc: Global, bytes: &[u8]) -> Result<Script, ScriptError>
-    ensures { GivesScript result (script_of bytes.now) }
+    ensures value { GivesScript result (script_of bytes.now) }
+    ensures too_large { IsErrOf result (ScriptError.Fault input_too_large) ↔ (input_limit < length bytes.now) }
 {
     if bytes.len() > INPUT_MAX {
         return Err(ScriptError::Fault(LineFault {
@@ -119,7 +122,7 @@ fn take_line(
     requires room { HasAtMost (number - 1) plans.old }
     ensures taken { OnOk result (TakesLine number line.now plans.old lines.old.items plans.new lines.new.items) }
     ensures fault { (fault : _) → IsErrOf result (ScriptError.Fault fault) → RefusesLine number line.now plans.old fault }
-    ensures within { OnOk result (number ≤ LINES_MAX) }
+    ensures within { OnOk result (number ≤ lines_limit) }
     ensures room { OnOk result (HasAtMost number plans.new) }
 {
     match read_line(number, line) {
@@ -140,7 +143,7 @@ fn take_asked(
     asked: Asked,
 ) -> Result<(), ScriptError>
     requires module { HasOwnModule asked }
-    requires room { (length plans.old.inet < PLAN_MAX) × (length plans.old.inet6 < PLAN_MAX) }
+    requires room { (length plans.old.inet.commands < plan_max) × (length plans.old.inet6.commands < plan_max) }
     ensures plans { OnOk result (plans.new ≡ plans_behind plans.old asked) }
     ensures lines { OnOk result (lines.new.items ≡ lines.old.items ++ entries_of number plans.old asked) }
     ensures err { (fault : _) → ¬ (IsErrOf result (ScriptError.Fault fault)) }
@@ -189,9 +192,9 @@ fn take_asked(
 /// Puts a command behind a plan, and gives its position.
 fn push<const W: u32>(plan: &mut Plan<W>, command: Command<W>) -> Result<u32, ScriptError>
     requires module { ¬ (IsWrongModule command) }
-    requires room { length plan.old < PLAN_MAX }
-    ensures plan { OnOk result (plan.new ≡ plan.old ++ command.entry ∷ []) }
-    ensures at { IfOk result (λ at. at ≡ length plan.old) }
+    requires room { length plan.old.commands < plan_max }
+    ensures plan { OnOk result (plan.new ≡ plan_with plan.old command.entry) }
+    ensures at { IfOk result (λ at. at ≡ length plan.old.commands) }
     ensures err { (fault : _) → ¬ (IsErrOf result (ScriptError.Fault fault)) }
 {
     let at = plan.len();

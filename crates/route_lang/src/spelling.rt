@@ -53,8 +53,8 @@ fn write_at(
     inet6: Option<u32>,
     out: &mut Vec<u8>,
 ) -> Result<(), OutOfMemory>
-    requires inet { IfSome inet (λ pos. pos < length script.now.inet) }
-    requires inet6 { IfSome inet6 (λ pos. pos < length script.now.inet6) }
+    requires inet { IfSome inet (λ pos. pos < length script.now.inet.commands) }
+    requires inet6 { IfSome inet6 (λ pos. pos < length script.now.inet6.commands) }
     ensures { OnOk result (out.new.items ≡ out.old.items ++ joined (words_at script.now inet inet6)) }
 {
     match (inet, inet6) {

@@ -1,6 +1,6 @@
 use crate::asked::{Asked, Shared};
 use crate::read_line::read_line;
-use crate::{LINE_MAX, Line, LineFault, Reason, ScriptError, read_script, write_line};
+use crate::{Line, LineFault, Reason, ScriptError, read_script, write_line};
 use prefix_width::{Addr, Kind, Nexthop, Path, Prefix, Setting};
 use rib_store::Command;
 use std::test::Fail;
@@ -95,6 +95,33 @@ const FAULTS: [(&[u8], Reason); 84] = [
     (b"algo dxr -inet6", Reason::NoModule),
     (b"algo AUTO", Reason::NoModule),
 ];
+
+// Each reason with its number and its text.
+const REASONS: [(Reason, u8, &str); 15] = [
+    (Reason::TooLarge, 1, "input too large"),
+    (Reason::TooManyLines, 2, "too many lines"),
+    (Reason::LineTooLong, 3, "line too long"),
+    (Reason::BadByte, 4, "bad byte"),
+    (Reason::UnknownCommand, 5, "unknown command"),
+    (Reason::UnknownOption, 6, "unknown option"),
+    (Reason::Repeated, 7, "repeated option"),
+    (Reason::MissingWord, 8, "missing word"),
+    (Reason::BadNumber, 9, "bad number"),
+    (Reason::ExtraWord, 10, "extra word"),
+    (Reason::BadAddress, 11, "bad address"),
+    (Reason::BadLength, 12, "bad length"),
+    (Reason::NoTarget, 13, "no target"),
+    (Reason::NoModule, 14, "no such module"),
+    (Reason::NotBuilt, 15, "not built"),
+];
+
+#[test]
+fn each_reason_has_its_number_and_its_text(rt: HostRuntime) {
+    for (reason, number, text) in REASONS {
+        assert_eq!(rt; reason as u8, number, "of {text}");
+        assert_eq!(rt; reason.text(), text);
+    }
+}
 
 #[test]
 fn the_first_reason_is_told(rt: HostRuntime) {
@@ -237,7 +264,7 @@ fn a_line_is_read_whole(rt: HostRuntime) {
 fn a_line_has_at_most_255_bytes(rt: HostRuntime) -> Result<(), Fail> {
     let mut text = Vec::new(rt.alloc());
     text.extend_from_slice(b"#")?;
-    for _ in 1..LINE_MAX {
+    for _ in 1..255 {
         text.push(b' ')?;
     }
     assert_eq!(rt; read_line(1_048_576, &text), Ok(Asked::Nothing));

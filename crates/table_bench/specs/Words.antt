@@ -2,7 +2,7 @@
 use Rattle.std.specs.Prelude.{◌≡◌, ◌≤◌, ℕ, List, [], ◌∷◌, Option, Some, None, codes, bytes_eq, IsTrue}
 use Rattle.std.specs.Option.{SomeIff}
 use Rattle.std.specs.Str.Parse.{IsNumeral, digits_value, without_leading_plus}
-use Rattle.rib_store.specs.declared.rib.TheConstants.{ROUTES_MAX}
+use Rattle.rib_store.specs.Limits.{routes_max}
 use Rattle.table_bench.specs.declared.job.Job.{Job}
 use Rattle.table_bench.specs.declared.job.Job.TheVariants.{Counts, Time}
 
@@ -12,7 +12,7 @@ number_of text = digits_value 10 (without_leading_plus text)
 
 -- a text that writes a number of routes that may be measured
 abbrev pub IsCount : List ℕ → Type 0
-IsCount text = IsNumeral 10 (without_leading_plus text) × (1 ≤ number_of text) × (number_of text ≤ ROUTES_MAX)
+IsCount text = IsNumeral 10 (without_leading_plus text) × (1 ≤ number_of text) × (number_of text ≤ routes_max)
 
 -- `time` and a number of routes ask for the times
 abbrev pub AsksTime : List ℕ → List ℕ → Option Job → Type 0

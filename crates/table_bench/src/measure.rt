@@ -23,15 +23,15 @@ pub(crate) struct Figures {
 }
 
 /// Does the commands of a phase on the table, and what they ask on the bare map.
-pub(crate) fn measure<R: CpuClock + AllocGlobal>(
+pub(crate) fn measure<R: CpuClock + AllocGlobal, const LIVE: u32>(
     rt: &R,
-    table: &mut Rib<32>,
+    table: &mut Rib<32, LIVE>,
     map: &mut BTreeMap<Prefix<32>, Path<32>>,
     phase: Phase,
     commands: &[Command<32>],
 ) -> Result<Figures, Fault>
-    ensures done { IfOk result (λ figures. figures.done ≡ count_by (is_done phase) (replies table.old commands.now)) }
-    ensures table { OnOk result (table.new ≡ table_from table.old commands.now) }
+    ensures done { IfOk result (λ figures. figures.done ≡ count_by (is_done phase) (replies LIVE table.old commands.now)) }
+    ensures table { OnOk result (table.new ≡ table_from LIVE table.old commands.now) }
     ensures map { OnOk result (map.new.entries ≡ map_from map.old.entries commands.now) }
 {
     let start = time(rt)?;

@@ -11,13 +11,16 @@ use std::time::CpuClock;
 /// At how many routes the counts are printed.
 const COUNTED: u32 = 1_000;
 
+/// How many live targets the table has room for.
+const TARGETS_MAX: u32 = 4_095;
+
 /// Does a job.
 pub(crate) fn work<R: Print + AllocGlobal + CpuClock>(rt: &R, job: Job) -> Result<(), Fault> {
     let count = match job {
         Job::Counts => COUNTED,
         Job::Time(count) => count,
     };
-    let mut table = Rib::new(rt.alloc());
+    let mut table = Rib::<32, TARGETS_MAX>::new(rt.alloc());
     let mut map = BTreeMap::new(rt.alloc());
     for (name, phase) in [
         ("add", Phase::Adds),

@@ -8,14 +8,14 @@ use rib_store::{Command, Reply, Rib};
 use std::alloc::Global;
 
 /// Applies the commands in turn. Gives how many are answered as the phase asks.
-pub(crate) fn apply_all(
-    table: &mut Rib<32>,
+pub(crate) fn apply_all<const LIVE: u32>(
+    table: &mut Rib<32, LIVE>,
     alloc: Global,
     phase: Phase,
     commands: &[Command<32>],
 ) -> Result<usize, OutOfMemory>
-    ensures table { OnOk result (table.new ≡ table_from table.old commands.now) }
-    ensures count { IfOk result (λ count. count ≡ count_by (is_done phase) (replies table.old commands.now)) }
+    ensures table { OnOk result (table.new ≡ table_from LIVE table.old commands.now) }
+    ensures count { IfOk result (λ count. count ≡ count_by (is_done phase) (replies LIVE table.old commands.now)) }
 {
     let mut count = 0;
     for command in commands {

@@ -3,4 +3,4 @@ use Rattle.plan_cut.proofs.ListingLemmas.{kind-versions}
 use Rattle.plan_cut.proofs.laws.law_modules.Goals as goal
 
 pub returns : goal.returns
-returns c = λ w plan v current next e f. kind-versions (course_of plan) v current next e f
+returns c = λ w live plan v current next e f. kind-versions (course_of live plan) v current next e f

@@ -3,4 +3,4 @@ use Rattle.rib_store.proofs.SettledLemmas.{Flushing}
 use Rattle.rib_store.proofs.links.unlink_flushed.Given as goal
 
 abbrev pub invariant-loop-prefix : goal.invariant-loop-prefix
-invariant-loop-prefix g l = Flushing 2047 l.prefix-iterator l.routes.entries l.links
+invariant-loop-prefix g l = Flushing g.row.LIVE l.prefix-iterator l.routes.entries l.links

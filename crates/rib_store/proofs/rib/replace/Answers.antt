@@ -10,57 +10,57 @@ use Rattle.rib_store.proofs.rib.replace.Goals as goal
 
 pub live_after-requires : goal.live_after-requires
 live_after-requires g c =
-    let r = replaces 262144 2047 c.args.routes.now.entries c.args.links.now c.args.prefix.now c.in-Some.present.now c.args.paths c.args.reply (lit< tt) c.in-Some.ensures.value c.in-Some.ensures.ordered c.requires c.live-live.ensures.counts c.as_slice-list.ensures.list in
+    let r = replaces g.row.LIVE c.args.routes.now.entries c.args.links.now c.args.prefix.now c.in-Some.present.now c.args.paths c.args.reply c.in-Some.ensures.value c.in-Some.ensures.ordered c.requires c.live-live.ensures.counts c.as_slice-list.ensures.list in
     (lit< tt, (lit< tt, (r.room, r.has)))
 
-pub returns-then-live_after-gt-TARGETS_MAX-clause-rib :
-    goal.returns-then-live_after-gt-TARGETS_MAX-clause-rib
-returns-then-live_after-gt-TARGETS_MAX-clause-rib g c =
-    let r = replaces 262144 2047 c.args.routes.now.entries c.args.links.now c.args.prefix.now c.in-Some.present.now c.args.paths c.args.reply (lit< tt) c.in-Some.ensures.value c.in-Some.ensures.ordered c.requires c.live-live.ensures.counts c.as_slice-list.ensures.list in
-    subst (λ (rows : Table). IsRib 262144 2047 rows c.args.links.now) (sym ((c.get_mut.follows.holds c.in-Some.present.now).0 ∙ r.same)) c.requires
+pub returns-then-live_after-clause-rib :
+    goal.returns-then-live_after-clause-rib
+returns-then-live_after-clause-rib g c =
+    let r = replaces g.row.LIVE c.args.routes.now.entries c.args.links.now c.args.prefix.now c.in-Some.present.now c.args.paths c.args.reply c.in-Some.ensures.value c.in-Some.ensures.ordered c.requires c.live-live.ensures.counts c.as_slice-list.ensures.list in
+    subst (λ (rows : Table). IsRib g.row.LIVE rows c.args.links.now) (sym ((c.get_mut.follows.holds c.in-Some.present.now).0 ∙ r.same)) c.requires
 
-pub returns-then-live_after-gt-TARGETS_MAX-clause-table :
-    goal.returns-then-live_after-gt-TARGETS_MAX-clause-table
-returns-then-live_after-gt-TARGETS_MAX-clause-table g c =
-    let r = replaces 262144 2047 c.args.routes.now.entries c.args.links.now c.args.prefix.now c.in-Some.present.now c.args.paths c.args.reply (lit< tt) c.in-Some.ensures.value c.in-Some.ensures.ordered c.requires c.live-live.ensures.counts c.as_slice-list.ensures.list in
+pub returns-then-live_after-clause-table :
+    goal.returns-then-live_after-clause-table
+returns-then-live_after-clause-table g c =
+    let r = replaces g.row.LIVE c.args.routes.now.entries c.args.links.now c.args.prefix.now c.in-Some.present.now c.args.paths c.args.reply c.in-Some.ensures.value c.in-Some.ensures.ordered c.requires c.live-live.ensures.counts c.as_slice-list.ensures.list in
     (c.get_mut.follows.holds c.in-Some.present.now).0 ∙ r.same ∙ sym (ap (λ (o : Outcome). o.table) (r.full c.live_after.result c.live_after.ensures (omega arith)))
 
-pub returns-then-live_after-gt-TARGETS_MAX-clause-reply :
-    goal.returns-then-live_after-gt-TARGETS_MAX-clause-reply
-returns-then-live_after-gt-TARGETS_MAX-clause-reply g c =
-    let r = replaces 262144 2047 c.args.routes.now.entries c.args.links.now c.args.prefix.now c.in-Some.present.now c.args.paths c.args.reply (lit< tt) c.in-Some.ensures.value c.in-Some.ensures.ordered c.requires c.live-live.ensures.counts c.as_slice-list.ensures.list in
+pub returns-then-live_after-clause-reply :
+    goal.returns-then-live_after-clause-reply
+returns-then-live_after-clause-reply g c =
+    let r = replaces g.row.LIVE c.args.routes.now.entries c.args.links.now c.args.prefix.now c.in-Some.present.now c.args.paths c.args.reply c.in-Some.ensures.value c.in-Some.ensures.ordered c.requires c.live-live.ensures.counts c.as_slice-list.ensures.list in
     sym (ap (λ (o : Outcome). o.reply) (r.full c.live_after.result c.live_after.ensures (omega arith)))
 
 pub returns-in_err-link-clause-rib : goal.returns-in_err-link-clause-rib
 returns-in_err-link-clause-rib g c =
-    let r = replaces 262144 2047 c.args.routes.now.entries c.args.links.now c.args.prefix.now c.in-Some.present.now c.args.paths c.args.reply (lit< tt) c.in-Some.ensures.value c.in-Some.ensures.ordered c.requires c.live-live.ensures.counts c.as_slice-list.ensures.list in
-    subst (λ (rows : Table). IsRib 262144 2047 rows c.link.new.self) (sym ((c.get_mut.follows.holds c.in-Some.present.now).0 ∙ r.same))
-    (subst (λ (u : Uses). IsRib 262144 2047 c.args.routes.now.entries u) (sym c.in_err-link.ensures.err) c.requires)
+    let r = replaces g.row.LIVE c.args.routes.now.entries c.args.links.now c.args.prefix.now c.in-Some.present.now c.args.paths c.args.reply c.in-Some.ensures.value c.in-Some.ensures.ordered c.requires c.live-live.ensures.counts c.as_slice-list.ensures.list in
+    subst (λ (rows : Table). IsRib g.row.LIVE rows c.link.new.self) (sym ((c.get_mut.follows.holds c.in-Some.present.now).0 ∙ r.same))
+    (subst (λ (u : Uses). IsRib g.row.LIVE c.args.routes.now.entries u) (sym c.in_err-link.ensures.err) c.requires)
 
 pub returns-in_err-link-clause-err : goal.returns-in_err-link-clause-err
 returns-in_err-link-clause-err g c =
-    let r = replaces 262144 2047 c.args.routes.now.entries c.args.links.now c.args.prefix.now c.in-Some.present.now c.args.paths c.args.reply (lit< tt) c.in-Some.ensures.value c.in-Some.ensures.ordered c.requires c.live-live.ensures.counts c.as_slice-list.ensures.list in
+    let r = replaces g.row.LIVE c.args.routes.now.entries c.args.links.now c.args.prefix.now c.in-Some.present.now c.args.paths c.args.reply c.in-Some.ensures.value c.in-Some.ensures.ordered c.requires c.live-live.ensures.counts c.as_slice-list.ensures.list in
     on_err c.from_residual.result ((c.get_mut.follows.holds c.in-Some.present.now).0 ∙ r.same)
 
 pub unlink-requires : goal.unlink-requires
 unlink-requires g c =
-    let r = replaces 262144 2047 c.args.routes.now.entries c.args.links.now c.args.prefix.now c.in-Some.present.now c.args.paths c.args.reply (lit< tt) c.in-Some.ensures.value c.in-Some.ensures.ordered c.requires c.live-live.ensures.counts c.as_slice-list.ensures.list in
+    let r = replaces g.row.LIVE c.args.routes.now.entries c.args.links.now c.args.prefix.now c.in-Some.present.now c.args.paths c.args.reply c.in-Some.ensures.value c.in-Some.ensures.ordered c.requires c.live-live.ensures.counts c.as_slice-list.ensures.list in
     (lit< tt, (lit< tt, subst (λ (u : Uses). HasPaths u c.replace-old.result) (sym c.in_ok-link.ensures.ok) (subst (λ (ps : List WeightedHop). HasPaths (with_paths c.args.links.now c.args.paths) ps) (sym c.replace-old.ensures.value) r.has)))
 
 pub returns-clause-rib : goal.returns-clause-rib
 returns-clause-rib g c =
-    let r = replaces 262144 2047 c.args.routes.now.entries c.args.links.now c.args.prefix.now c.in-Some.present.now c.args.paths c.args.reply (lit< tt) c.in-Some.ensures.value c.in-Some.ensures.ordered c.requires c.live-live.ensures.counts c.as_slice-list.ensures.list in
+    let r = replaces g.row.LIVE c.args.routes.now.entries c.args.links.now c.args.prefix.now c.in-Some.present.now c.args.paths c.args.reply c.in-Some.ensures.value c.in-Some.ensures.ordered c.requires c.live-live.ensures.counts c.as_slice-list.ensures.list in
     let put = (c.get_mut.follows.holds c.replace-old.new.dest).0 ∙ ap (set_value (is_at (block_cmp c.args.prefix.now)) c.args.routes.now.entries) c.replace-old.ensures.after ∙ r.put in
     let links : c.unlink.new.self ≡ without_paths (with_paths c.args.links.now c.args.paths) c.in-Some.present.now =
     c.unlink.ensures
     ∙ ap (λ (u : Uses). without_paths u c.replace-old.result) c.in_ok-link.ensures.ok
     ∙ ap (λ (ps : List WeightedHop). without_paths (with_paths c.args.links.now c.args.paths) ps) c.replace-old.ensures.value in
-    subst (λ (rows : Table). IsRib 262144 2047 rows c.unlink.new.self) (sym put)
-    (subst (λ (u : Uses). IsRib 262144 2047 (put_row c.args.routes.now.entries c.args.prefix.now c.args.paths) u) (sym links) (r.rib c.live_after.result c.live_after.ensures (omega arith)))
+    subst (λ (rows : Table). IsRib g.row.LIVE rows c.unlink.new.self) (sym put)
+    (subst (λ (u : Uses). IsRib g.row.LIVE (put_row c.args.routes.now.entries c.args.prefix.now c.args.paths) u) (sym links) (r.rib c.live_after.result c.live_after.ensures (omega arith)))
 
 pub returns-clause-table : goal.returns-clause-table
 returns-clause-table g c =
-    let r = replaces 262144 2047 c.args.routes.now.entries c.args.links.now c.args.prefix.now c.in-Some.present.now c.args.paths c.args.reply (lit< tt) c.in-Some.ensures.value c.in-Some.ensures.ordered c.requires c.live-live.ensures.counts c.as_slice-list.ensures.list in
+    let r = replaces g.row.LIVE c.args.routes.now.entries c.args.links.now c.args.prefix.now c.in-Some.present.now c.args.paths c.args.reply c.in-Some.ensures.value c.in-Some.ensures.ordered c.requires c.live-live.ensures.counts c.as_slice-list.ensures.list in
     (c.get_mut.follows.holds c.replace-old.new.dest).0
     ∙ ap (set_value (is_at (block_cmp c.args.prefix.now)) c.args.routes.now.entries) c.replace-old.ensures.after
     ∙ r.put
@@ -68,5 +68,5 @@ returns-clause-table g c =
 
 pub returns-clause-reply : goal.returns-clause-reply
 returns-clause-reply g c =
-    let r = replaces 262144 2047 c.args.routes.now.entries c.args.links.now c.args.prefix.now c.in-Some.present.now c.args.paths c.args.reply (lit< tt) c.in-Some.ensures.value c.in-Some.ensures.ordered c.requires c.live-live.ensures.counts c.as_slice-list.ensures.list in
+    let r = replaces g.row.LIVE c.args.routes.now.entries c.args.links.now c.args.prefix.now c.in-Some.present.now c.args.paths c.args.reply c.in-Some.ensures.value c.in-Some.ensures.ordered c.requires c.live-live.ensures.counts c.as_slice-list.ensures.list in
     sym (ap (λ (o : Outcome). o.reply) (r.done c.live_after.result c.live_after.ensures (omega arith)))

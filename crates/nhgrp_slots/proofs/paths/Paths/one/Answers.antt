@@ -1,7 +1,6 @@
-use Rattle.std.proofs.Common.{ap, ◌∙◌, ◌++◌, ◌∷◌, [], List}
-use Rattle.prefix_width.specs.Path.{WeightedHop}
+use Rattle.std.proofs.Common.{refl}
 use Rattle.nhgrp_slots.proofs.PathLemmas.{single}
 use Rattle.nhgrp_slots.proofs.paths.Paths.one.Goals as goal
 
 pub invariant_of-result : goal.invariant_of-result
-invariant_of-result g c = single _ c.args.path (c.in_ok-push.ensures.items ∙ ap (λ (xs : List WeightedHop). xs ++ c.args.path ∷ []) c.new-paths.ensures.items)
+invariant_of-result g c = single _ c.args.path refl

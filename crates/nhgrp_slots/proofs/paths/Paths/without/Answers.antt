@@ -5,8 +5,8 @@ use Rattle.nhgrp_slots.specs.PathList.{IsPathList, left_by, goes_by}
 use Rattle.nhgrp_slots.proofs.PathLemmas.{filtered}
 use Rattle.nhgrp_slots.proofs.paths.Paths.without.Goals as goal
 
-pub invariant_of-result : goal.invariant_of-result
-invariant_of-result g c =
+pub kept-requires : goal.kept-requires
+kept-requires g c =
     let left : c.loop-path.paths.items ≡ left_by c.args.gateway.now c.args.self.now = grind (arith, common_steps) in
     let some : 1 ≤ length c.loop-path.paths.items = grind (arith, common_steps, c.if-is_empty.false) in
-    filtered (λ p. not (goes_by c.args.gateway.now p)) _ _ left some (subst IsPathList c.self.view_is c.self.invariant)
+    (omega arith, (omega arith, filtered (λ p. not (goes_by c.args.gateway.now p)) _ _ left some c.as_slice-path-items.ensures.list))

@@ -7,11 +7,17 @@ use Rattle.rib_store.proofs.rib.Rib.drop_route.Goals as goal
 
 pub unlink-requires : goal.unlink-requires
 unlink-requires g c =
-    let d = drops_route 262144 2047 c.self.inside.routes.entries c.self.inside.links c.args.prefix.now c.in-Some.gone (sym c.in-Some.is ∙ c.remove.ensures.value) c.self.invariant c.live-live.ensures.counts in
+    let d = drops_route g.row.LIVE c.self.inside.routes.entries c.self.inside.links c.args.prefix.now c.in-Some.gone (sym c.in-Some.is ∙ c.remove.ensures.value) c.self.invariant c.live-live.ensures.counts in
     (lit< tt, (lit< tt, d.has))
 
 pub invariant_of-self : goal.invariant_of-self
 invariant_of-self g c =
-    let d = drops_route 262144 2047 c.self.inside.routes.entries c.self.inside.links c.args.prefix.now c.in-Some.gone (sym c.in-Some.is ∙ c.remove.ensures.value) c.self.invariant c.live-live.ensures.counts in
-    subst (λ (rows : Table). IsRib 262144 2047 rows c.unlink.new.self) (sym c.remove.ensures.entries)
-    (subst (λ (u : Uses). IsRib 262144 2047 (drop_row c.self.inside.routes.entries c.args.prefix.now) u) (sym c.unlink.ensures) d.rib)
+    let d = drops_route g.row.LIVE c.self.inside.routes.entries c.self.inside.links c.args.prefix.now c.in-Some.gone (sym c.in-Some.is ∙ c.remove.ensures.value) c.self.invariant c.live-live.ensures.counts in
+    subst (λ (rows : Table). IsRib g.row.LIVE rows c.unlink.new.self) (sym c.remove.ensures.entries)
+    (subst (λ (u : Uses). IsRib g.row.LIVE (drop_row c.self.inside.routes.entries c.args.prefix.now) u) (sym c.unlink.ensures) d.rib)
+
+pub invariant_of-self-in-Some-2 : goal.invariant_of-self-in-Some-2
+invariant_of-self-in-Some-2 g c =
+    let d = drops_route g.row.LIVE c.self.inside.routes.entries c.self.inside.links c.args.prefix.now c.in-Some.gone (sym c.in-Some.is ∙ c.remove.ensures.value) c.self.invariant c.live-live.ensures.counts in
+    subst (λ (rows : Table). IsRib g.row.LIVE rows c.unlink.new.self) (sym c.remove.ensures.entries)
+    (subst (λ (u : Uses). IsRib g.row.LIVE (drop_row c.self.inside.routes.entries c.args.prefix.now) u) (sym c.unlink.ensures) d.rib)

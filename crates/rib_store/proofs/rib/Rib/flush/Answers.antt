@@ -8,7 +8,7 @@ use Rattle.rib_store.proofs.rib.Rib.flush.Goals as goal
 pub invariant_of-self : goal.invariant_of-self
 invariant_of-self g c =
     let kept = filter_from_retain_pairs _ (λ _. Unit {0}) (λ r. not (has_via r.1)) (λ f k v b w f' i t. (search rules, search rules, tt)) _ _ _ tt c.retain.ensures.filtered in
-    subst (λ (rows : Table). IsRib 262144 2047 rows c.unlink_flushed.new.links) (sym kept) c.unlink_flushed.ensures
+    subst (λ (rows : Table). IsRib g.row.LIVE rows c.unlink_flushed.new.links) (sym kept) c.unlink_flushed.ensures
 
 pub returns-clause-table : goal.returns-clause-table
 returns-clause-table g c =

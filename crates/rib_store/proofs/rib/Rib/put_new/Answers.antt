@@ -12,47 +12,47 @@ use Rattle.rib_store.proofs.rib.Rib.put_new.Goals as goal
 
 pub returns-then-len-clause-table : goal.returns-then-len-clause-table
 returns-then-len-clause-table g c =
-    let r = puts_new 262144 2047 c.self.inside.routes.entries c.self.inside.links c.args.prefix c.args.paths Added (lit< tt) (ap (λ (rows : Table). paths_at rows c.args.prefix) c.self.view_is ∙ c.requires) c.len.ensures.ordered c.self.invariant c.live-live.ensures.counts c.as_slice-list.ensures.list in
-    let full : settled 262144 2047 c.args.self.now c.args.prefix c.args.paths Added ≡ refused c.args.self.now TableFull =
-    ap (λ (rows : Table). settled 262144 2047 rows c.args.prefix c.args.paths Added) (sym c.self.view_is)
+    let r = puts_new g.row.LIVE c.self.inside.routes.entries c.self.inside.links c.args.prefix c.args.paths Added (ap (λ (rows : Table). paths_at rows c.args.prefix) c.self.view_is ∙ c.requires) c.len.ensures.ordered c.self.invariant c.live-live.ensures.counts c.as_slice-list.ensures.list in
+    let full : settled g.row.LIVE c.args.self.now c.args.prefix c.args.paths Added ≡ refused c.args.self.now TableFull =
+    ap (λ (rows : Table). settled g.row.LIVE rows c.args.prefix c.args.paths Added) (sym c.self.view_is)
     ∙ r.table_full c.len.result c.len.ensures.len (omega arith)
     ∙ ap (λ (rows : Table). refused rows TableFull) c.self.view_is in
     sym (ap (λ (o : Outcome). o.table) full)
 
 pub returns-then-len-clause-reply : goal.returns-then-len-clause-reply
 returns-then-len-clause-reply g c =
-    let r = puts_new 262144 2047 c.self.inside.routes.entries c.self.inside.links c.args.prefix c.args.paths Added (lit< tt) (ap (λ (rows : Table). paths_at rows c.args.prefix) c.self.view_is ∙ c.requires) c.len.ensures.ordered c.self.invariant c.live-live.ensures.counts c.as_slice-list.ensures.list in
-    let full : settled 262144 2047 c.args.self.now c.args.prefix c.args.paths Added ≡ refused c.args.self.now TableFull =
-    ap (λ (rows : Table). settled 262144 2047 rows c.args.prefix c.args.paths Added) (sym c.self.view_is)
+    let r = puts_new g.row.LIVE c.self.inside.routes.entries c.self.inside.links c.args.prefix c.args.paths Added (ap (λ (rows : Table). paths_at rows c.args.prefix) c.self.view_is ∙ c.requires) c.len.ensures.ordered c.self.invariant c.live-live.ensures.counts c.as_slice-list.ensures.list in
+    let full : settled g.row.LIVE c.args.self.now c.args.prefix c.args.paths Added ≡ refused c.args.self.now TableFull =
+    ap (λ (rows : Table). settled g.row.LIVE rows c.args.prefix c.args.paths Added) (sym c.self.view_is)
     ∙ r.table_full c.len.result c.len.ensures.len (omega arith)
     ∙ ap (λ (rows : Table). refused rows TableFull) c.self.view_is in
     sym (ap (λ (o : Outcome). o.reply) full)
 
-pub returns-then-live_after-gt-TARGETS_MAX-clause-table :
-    goal.returns-then-live_after-gt-TARGETS_MAX-clause-table
-returns-then-live_after-gt-TARGETS_MAX-clause-table g c =
-    let r = puts_new 262144 2047 c.self.inside.routes.entries c.self.inside.links c.args.prefix c.args.paths Added (lit< tt) (ap (λ (rows : Table). paths_at rows c.args.prefix) c.self.view_is ∙ c.requires) c.len.ensures.ordered c.self.invariant c.live-live.ensures.counts c.as_slice-list.ensures.list in
-    let full : settled 262144 2047 c.args.self.now c.args.prefix c.args.paths Added ≡ refused c.args.self.now TargetsFull =
-    ap (λ (rows : Table). settled 262144 2047 rows c.args.prefix c.args.paths Added) (sym c.self.view_is)
+pub returns-then-live_after-clause-table :
+    goal.returns-then-live_after-clause-table
+returns-then-live_after-clause-table g c =
+    let r = puts_new g.row.LIVE c.self.inside.routes.entries c.self.inside.links c.args.prefix c.args.paths Added (ap (λ (rows : Table). paths_at rows c.args.prefix) c.self.view_is ∙ c.requires) c.len.ensures.ordered c.self.invariant c.live-live.ensures.counts c.as_slice-list.ensures.list in
+    let full : settled g.row.LIVE c.args.self.now c.args.prefix c.args.paths Added ≡ refused c.args.self.now TargetsFull =
+    ap (λ (rows : Table). settled g.row.LIVE rows c.args.prefix c.args.paths Added) (sym c.self.view_is)
     ∙ r.targets_full c.len.result c.live_after.result c.len.ensures.len (omega arith) c.live_after.ensures (omega arith)
     ∙ ap (λ (rows : Table). refused rows TargetsFull) c.self.view_is in
     sym (ap (λ (o : Outcome). o.table) full)
 
-pub returns-then-live_after-gt-TARGETS_MAX-clause-reply :
-    goal.returns-then-live_after-gt-TARGETS_MAX-clause-reply
-returns-then-live_after-gt-TARGETS_MAX-clause-reply g c =
-    let r = puts_new 262144 2047 c.self.inside.routes.entries c.self.inside.links c.args.prefix c.args.paths Added (lit< tt) (ap (λ (rows : Table). paths_at rows c.args.prefix) c.self.view_is ∙ c.requires) c.len.ensures.ordered c.self.invariant c.live-live.ensures.counts c.as_slice-list.ensures.list in
-    let full : settled 262144 2047 c.args.self.now c.args.prefix c.args.paths Added ≡ refused c.args.self.now TargetsFull =
-    ap (λ (rows : Table). settled 262144 2047 rows c.args.prefix c.args.paths Added) (sym c.self.view_is)
+pub returns-then-live_after-clause-reply :
+    goal.returns-then-live_after-clause-reply
+returns-then-live_after-clause-reply g c =
+    let r = puts_new g.row.LIVE c.self.inside.routes.entries c.self.inside.links c.args.prefix c.args.paths Added (ap (λ (rows : Table). paths_at rows c.args.prefix) c.self.view_is ∙ c.requires) c.len.ensures.ordered c.self.invariant c.live-live.ensures.counts c.as_slice-list.ensures.list in
+    let full : settled g.row.LIVE c.args.self.now c.args.prefix c.args.paths Added ≡ refused c.args.self.now TargetsFull =
+    ap (λ (rows : Table). settled g.row.LIVE rows c.args.prefix c.args.paths Added) (sym c.self.view_is)
     ∙ r.targets_full c.len.result c.live_after.result c.len.ensures.len (omega arith) c.live_after.ensures (omega arith)
     ∙ ap (λ (rows : Table). refused rows TargetsFull) c.self.view_is in
     sym (ap (λ (o : Outcome). o.reply) full)
 
 pub invariant_of-self-in-Ok-None : goal.invariant_of-self-in-Ok-None
 invariant_of-self-in-Ok-None g c =
-    let r = puts_new 262144 2047 c.self.inside.routes.entries c.self.inside.links c.args.prefix c.args.paths Added (lit< tt) (ap (λ (rows : Table). paths_at rows c.args.prefix) c.self.view_is ∙ c.requires) c.len.ensures.ordered c.self.invariant c.live-live.ensures.counts c.as_slice-list.ensures.list in
-    subst (λ (rows : Table). IsRib 262144 2047 rows c.link.new.self) (sym c.in-Ok-None.ensures.entries)
-    (subst (λ (u : Uses). IsRib 262144 2047 (put_row c.self.inside.routes.entries c.args.prefix c.args.paths) u) (sym c.in_ok-link.ensures.ok) (r.rib c.len.result c.live_after.result c.len.ensures.len (omega arith) c.live_after.ensures (omega arith)))
+    let r = puts_new g.row.LIVE c.self.inside.routes.entries c.self.inside.links c.args.prefix c.args.paths Added (ap (λ (rows : Table). paths_at rows c.args.prefix) c.self.view_is ∙ c.requires) c.len.ensures.ordered c.self.invariant c.live-live.ensures.counts c.as_slice-list.ensures.list in
+    subst (λ (rows : Table). IsRib g.row.LIVE rows c.link.new.self) (sym c.in-Ok-None.ensures.entries)
+    (subst (λ (u : Uses). IsRib g.row.LIVE (put_row c.self.inside.routes.entries c.args.prefix c.args.paths) u) (sym c.in_ok-link.ensures.ok) (r.rib c.len.result c.live_after.result c.len.ensures.len (omega arith) c.live_after.ensures (omega arith)))
 
 pub unlink-requires : goal.unlink-requires
 unlink-requires g c =
@@ -68,21 +68,32 @@ invariant_of-self-in-Err g c =
     ∙ ap (λ (u : Uses). without_paths u c.in-Err.failed.value.1) c.in_ok-link.ensures.ok
     ∙ ap (λ (ps : List WeightedHop). without_paths (with_paths c.self.inside.links c.args.paths) ps) back
     ∙ undone c.self.inside.links c.args.paths c.live-live.ensures.counts in
-    subst (λ (rows : Table). IsRib 262144 2047 rows c.unlink.new.self) (sym c.in-Err.ensures.err)
-    (subst (λ (u : Uses). IsRib 262144 2047 c.self.inside.routes.entries u) (sym links) c.self.invariant)
+    subst (λ (rows : Table). IsRib g.row.LIVE rows c.unlink.new.self) (sym c.in-Err.ensures.err)
+    (subst (λ (u : Uses). IsRib g.row.LIVE c.self.inside.routes.entries u) (sym links) c.self.invariant)
+
+pub invariant_of-self-in-Err-2 : goal.invariant_of-self-in-Err-2
+invariant_of-self-in-Err-2 g c =
+    let back : c.in-Err.failed.value.1 ≡ c.args.paths = ap (λ (p : Block × List WeightedHop). p.1) c.in-Err.ensures.value_returned in
+    let links : c.unlink.new.self ≡ c.self.inside.links =
+    c.unlink.ensures
+    ∙ ap (λ (u : Uses). without_paths u c.in-Err.failed.value.1) c.in_ok-link.ensures.ok
+    ∙ ap (λ (ps : List WeightedHop). without_paths (with_paths c.self.inside.links c.args.paths) ps) back
+    ∙ undone c.self.inside.links c.args.paths c.live-live.ensures.counts in
+    subst (λ (rows : Table). IsRib g.row.LIVE rows c.unlink.new.self) (sym c.in-Err.ensures.err)
+    (subst (λ (u : Uses). IsRib g.row.LIVE c.self.inside.routes.entries u) (sym links) c.self.invariant)
 
 pub returns-in-Ok-None-clause-table : goal.returns-in-Ok-None-clause-table
 returns-in-Ok-None-clause-table g c =
-    let r = puts_new 262144 2047 c.self.inside.routes.entries c.self.inside.links c.args.prefix c.args.paths Added (lit< tt) (ap (λ (rows : Table). paths_at rows c.args.prefix) c.self.view_is ∙ c.requires) c.len.ensures.ordered c.self.invariant c.live-live.ensures.counts c.as_slice-list.ensures.list in
+    let r = puts_new g.row.LIVE c.self.inside.routes.entries c.self.inside.links c.args.prefix c.args.paths Added (ap (λ (rows : Table). paths_at rows c.args.prefix) c.self.view_is ∙ c.requires) c.len.ensures.ordered c.self.invariant c.live-live.ensures.counts c.as_slice-list.ensures.list in
     let done =
-    ap (λ (rows : Table). settled 262144 2047 rows c.args.prefix c.args.paths Added) (sym c.self.view_is)
+    ap (λ (rows : Table). settled g.row.LIVE rows c.args.prefix c.args.paths Added) (sym c.self.view_is)
     ∙ r.done c.len.result c.live_after.result c.len.ensures.len (omega arith) c.live_after.ensures (omega arith) in
     c.in-Ok-None.ensures.entries ∙ sym (ap (λ (o : Outcome). o.table) done)
 
 pub returns-in-Ok-None-clause-reply : goal.returns-in-Ok-None-clause-reply
 returns-in-Ok-None-clause-reply g c =
-    let r = puts_new 262144 2047 c.self.inside.routes.entries c.self.inside.links c.args.prefix c.args.paths Added (lit< tt) (ap (λ (rows : Table). paths_at rows c.args.prefix) c.self.view_is ∙ c.requires) c.len.ensures.ordered c.self.invariant c.live-live.ensures.counts c.as_slice-list.ensures.list in
+    let r = puts_new g.row.LIVE c.self.inside.routes.entries c.self.inside.links c.args.prefix c.args.paths Added (ap (λ (rows : Table). paths_at rows c.args.prefix) c.self.view_is ∙ c.requires) c.len.ensures.ordered c.self.invariant c.live-live.ensures.counts c.as_slice-list.ensures.list in
     let done =
-    ap (λ (rows : Table). settled 262144 2047 rows c.args.prefix c.args.paths Added) (sym c.self.view_is)
+    ap (λ (rows : Table). settled g.row.LIVE rows c.args.prefix c.args.paths Added) (sym c.self.view_is)
     ∙ r.done c.len.result c.live_after.result c.len.ensures.len (omega arith) c.live_after.ensures (omega arith) in
     sym (ap (λ (o : Outcome). o.reply) done)
