@@ -1,3 +1,4 @@
 pub mod Fault
 pub mod Reads
 pub mod Words
+pub mod Names

@@ -146,7 +146,7 @@ pub(crate) fn run_beside<R: Threads + Wait + CpuClock + Sync>(
     );
     let written = written?;
     let all = gather(alloc, &written.control, rounds, reads?)?;
-    finish(written, all)
+    finish(alloc, written, all)
 }
 
 /// All readers so often, and then clears the flag.
@@ -166,7 +166,7 @@ fn read_and_clear<R: Threads + CpuClock + Sync>(
 }
 
 /// Ends the seats.
-fn finish(written: Written, all: Gathered) -> Result<Beside, Fault>
+fn finish(alloc: Global, written: Written, all: Gathered) -> Result<Beside, Fault>
     requires table { All (λ s. s.table ≡ written.control.table) all.seats.items }
     requires all { written.control.own.readers ≤ length all.seats.items }
     ensures placed { IfOk result (λ b. b.placed ≡ written.control.own.version) }
@@ -174,7 +174,7 @@ fn finish(written: Written, all: Gathered) -> Result<Beside, Fault>
     ensures found { IfOk result (λ b. b.found ≡ all.found) }
 {
     let placed = written.control.version();
-    let last = close_table(written.control, all.seats)?;
+    let last = close_table(alloc, written.control, all.seats)?;
     Ok(Beside {
         placed,
         last,

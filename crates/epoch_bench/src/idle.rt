@@ -38,7 +38,7 @@ pub(crate) fn run_idle<R: Wait + CpuClock>(
     let reading = AtomicBool::new(false);
     let written = write(rt, alloc, control, Goal::Versions(versions), &reading)?;
     let placed = written.control.version();
-    let last = close_table(written.control, seats)?;
+    let last = close_table(alloc, written.control, seats)?;
     let time = written.time;
     Ok(Idle { placed, last, time })
 }

@@ -1,5 +1,7 @@
 ghost use Rattle.std.specs.Prelude.{◌≡◌, ◌+◌, ◌<◌, ◌≤◌, IfOk, IfErr, OnOk, OnErr, length, All};
 ghost use Rattle.epoch_bench.specs.Fault.{IsRunFault};
+ghost use Rattle.epoch_bench.specs.Names.{no_names};
+ghost use Rattle.epoch_core.specs.Fresh.{AreFresh};
 ghost use Rattle.epoch_bench.specs.Reads.{Reaches, HasRoom};
 
 use crate::OutOfMemory;
@@ -35,9 +37,10 @@ pub(crate) struct Written {
 }
 
 /// Places the copies as the next version, however often readers hold it up.
-fn place_copies<R: Wait>(rt: &R, control: &mut Control, copies: Copies<Stamp>)
-    requires count { length copies ≡ control.old.own.readers }
-    requires lawful { All (λ c. control.old.own.version + 1 ≡ c.0) copies }
+fn place_copies<R: Wait>(rt: &R, control: &mut Control, copies: Copies<Stamp, 8, 4095>)
+    requires count { length copies.values ≡ control.old.own.readers }
+    requires lawful { All (λ c. control.old.own.version + 1 ≡ c.0) copies.values }
+    requires fresh { AreFresh 8 no_names control.old.own.version copies.fresh }
     requires room { control.old.own.version < VERSION_MAX }
     ensures placed { control.new.own.version ≡ control.old.own.version + 1 }
     ensures seat { (control.new.table ≡ control.old.table) × (control.new.own.readers ≡ control.old.own.readers) }
@@ -54,6 +57,7 @@ fn place_copies<R: Wait>(rt: &R, control: &mut Control, copies: Copies<Stamp>)
 }
 
 /// Places the next version.
+#[tactic(auto, using(crate::proofs::NameLemmas::none_fresh))]
 fn place<R: Wait>(rt: &R, alloc: Global, control: &mut Control) -> Result<(), OutOfMemory>
     requires room { control.old.own.version < VERSION_MAX }
     ensures placed { OnOk result (control.new.own.version ≡ control.old.own.version + 1) }
@@ -61,7 +65,7 @@ fn place<R: Wait>(rt: &R, alloc: Global, control: &mut Control) -> Result<(), Ou
     ensures same { OnErr result (control.new ≡ control.old) }
 {
     let image = Arc::new(alloc, Stamp(control.version() + 1))?;
-    let copies = control.prepare(alloc, &image)?;
+    let copies = control.prepare(alloc, &image, &[])?;
     place_copies(rt, control, copies);
     Ok(())
 }

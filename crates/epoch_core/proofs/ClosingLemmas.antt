@@ -19,66 +19,22 @@ use Rattle.epoch_core.specs.declared.view.Role.TheVariants.{Reader, Control}
 use Rattle.epoch_core.specs.declared.view.View.{View}
 use Rattle.epoch_core.specs.World.{World}
 use Rattle.epoch_core.specs.Sound.{HoldsBank, PhaseFits, Sound}
-use Rattle.epoch_core.specs.Rule.{Owners, EndedFit, is_among, AreOnce, EpochRule}
+use Rattle.epoch_core.specs.Rule.{Ended, Owners, EndedFit, is_among, AreOnce, EpochRule}
 use Rattle.epoch_core.specs.Follows.{StepFollows}
-use Rattle.epoch_core.specs.Plays.{Mine, view, HaveSeen, closes}
+use Rattle.epoch_core.specs.Plays.{Mine, HaveSeen, closes, IsOneHistory}
 use Rattle.epoch_core.specs.Running.{NoneIsLeft}
 use Rattle.epoch_core.specs.Closing.{readers_of, IsOneOfEach}
 use Rattle.epoch_core.specs.SeatViews.{ReaderView, ControlView}
 use Rattle.epoch_core.proofs.ReaderSteps.{fits_at}
+use Rattle.epoch_core.proofs.CountLemmas.{all_tallied}
+use Rattle.epoch_core.proofs.EndedLemmas.{few_at_once, all_at_once, ended_at}
 
-neither : (a b : Bool) → a || b ≡ false → (a ≡ false) × (b ≡ false)
-neither true b e = absurd (true≢false e)
-neither false b e = (refl, e)
-
-abbrev numbers : List (ℕ × Own) → List ℕ
-numbers ps = map (λ (p : ℕ × Own). p.0) ps
-
-apart : (r : ℕ) (ps : List (ℕ × Own)) → is_among r ps ≡ false → AllByRecursion (λ y. eqb r y ≡ false) (numbers ps)
-apart r [] e = tt
-apart r (p ∷ ps) e = let n = neither (p.0 == r) (is_among r ps) e in let far = n.0 in (grind (arith, nat_tests), apart r ps n.1)
-
-distinct : (n : ℕ) (ps : List (ℕ × Own)) → AreOnce n ps → IsDistinct eqb (numbers ps)
-unfolding IsDistinct
-distinct n [] a = tt
-distinct n (p ∷ ps) a = (apart p.0 ps a.1, distinct n ps a.2)
-
-below : (n : ℕ) (ps : List (ℕ × Own)) → AreOnce n ps → (q : ℕ) → list_any (eqb q) (numbers ps) ≡ true → q < n
-below n [] a q has = absurd (true≢false (sym has))
-below n (p ∷ ps) a q has = ⊎_elim
-    (λ t. let e : q ≡ p.0 = grind (arith, nat_tests) in let l = a.0 in omega arith)
-    (λ f. below n ps a.2 q (rw f at has))
-    (cases_Bool (eqb q p.0))
-
--- readers below n, each there once, are no more than n
-few_at_once : (n : ℕ) (ps : List (ℕ × Own)) → AreOnce n ps → length ps ≤ n
-few_at_once n ps a =
-    let few = length-le_from_distinct_below (numbers ps) n (distinct n ps a) (below n ps a) in
-    let same : length (numbers ps) ≡ length ps = length-map ps (λ (p : ℕ × Own). p.0) in omega arith
-
--- where they are n, each reader below n is among them
-all_at_once : (n : ℕ) (ps : List (ℕ × Own)) → AreOnce n ps → n ≤ length ps → (r : ℕ) → r < n → is_among r ps ≡ true
-all_at_once n ps a long r l = ⊎_elim
-    (λ t. t)
-    (λ f. let o : ℕ × Own = (r, record { last = 0; seen = 0; phase = Idle; looks = 0; announces = 0; enters = 0 }) in
-    let more = few_at_once n (o ∷ ps) (l, f, a) in absurd (omega arith))
-    (cases_Bool (is_among r ps))
-
--- a reader that is among those that have ended has ended, and stands outside
-ended_at : (x : World) (owners : Owners) (r : ℕ) (ps : List (ℕ × Own)) → EndedFit x owners ps → is_among r ps ≡ true → (owners.ended r ≡ true) × ((x.reader_at r).own.phase ≡ Idle)
-ended_at x owners r [] k has = absurd (true≢false (sym has))
-ended_at x owners r (p ∷ ps) k has = ⊎_elim
-    (λ t. let e : p.0 ≡ r = grind (arith, nat_tests) in
-    (subst (λ (q : ℕ). owners.ended q ≡ true) e k.0, subst (λ (q : ℕ). (x.reader_at q).own.phase ≡ Idle) e (ap (λ (o : Own). o.phase) k.1 ∙ k.2)))
-    (λ f. ended_at x owners r ps k.3 (rw f at has))
-    (cases_Bool (p.0 == r))
-
-have_seen : (K : ℕ) (x : World) (owners : Owners) (ps : List (ℕ × Own)) → Sound K x → AreOnce x.readers ps → EndedFit x owners ps → HaveSeen x.cur ps
-have_seen K x owners [] sound a k = tt
-have_seen K x owners (p ∷ ps) sound a k = (
+have_seen : (K G : ℕ) (x : World) (owners : Owners) (ps : List Ended) → Sound K G x → AreOnce x.readers ps → EndedFit x owners ps → HaveSeen x.cur ps
+have_seen K G x owners [] sound a k = tt
+have_seen K G x owners (p ∷ ps) sound a k = (
   k.2,
   subst (λ (o : Own). o.seen ≤ x.cur) k.1 (sound.each_reader p.0 a.0).order.1,
-  have_seen K x owners ps sound a.2 k.3,
+  have_seen K G x owners ps sound a.2 k.3,
 )
 
 set_same : {A : Type 0} (xs : List A) (i : ℕ) (x : A) → get_elem? xs i ≡ some x → set xs i x ≡ xs
@@ -86,17 +42,16 @@ set_same [] i x e = refl
 set_same (y ∷ ys) zero x e = ap (λ z. z ∷ ys) (sym (some-injective y x e))
 set_same (y ∷ ys) (suc i) x e = ap (λ zs. y ∷ zs) (set_same ys i x e)
 
-module _ {Q C : Type 0} (K : ℕ) (two : 2 ≤ K) (lawful : Q → ℕ → C → Type 0) (key : Q) where
+module _ {Q C : Type 0} (K G : ℕ) (two : 2 ≤ K) (lawful : Q → ℕ → C → Type 0) (names : Q → ℕ → List (ℕ × ℕ)) (key : Q) where
   abbrev St : Type 0
   St = State (Option C) (View Q)
 
   abbrev Rule : St → Type 0
-  Rule = EpochRule K lawful key
+  Rule = EpochRule K G lawful names key
 
   -- the control looks at the version published last
-  pub closing : (slots id : ℕ) (me : Mine Q C) (d : ControlOwn) → me.0.role ≡ Control d → StepFollows K lawful key slots id me 0 (λ n. n) (closes lawful K me) (λ x. x)
+  pub closing : (slots id : ℕ) (me : Mine Q C) (d : ControlOwn) → me.0.role ≡ Control d → StepFollows K G lawful names key slots id me 0 (λ n. n) (closes K G me) (λ x. x) (λ es. es)
   closing slots id me own role s h _ at _ =
-      let keyed = (fits_at K two lawful key s h id me.0 (Control own) role at).0 in
       let x = h.world in
       let n : ℕ = get_or s.words 0 0 in
       let words = set-get_or s.words 0 0 in
@@ -105,32 +60,31 @@ module _ {Q C : Type 0} (K : ℕ) (two : 2 ≤ K) (lawful : Q → ℕ → C → 
         me.0,
         keeps,
         tt,
-        subst (λ (t : St). (h' : Rule t) × (h'.world ≡ x)) still (h, refl),
+        subst (λ (t : St). (h' : Rule t) × (h'.world ≡ x) × (h'.events ≡ h.events)) still (h, refl, refl),
         (
           refl,
-          (λ d is. let k = (fits_at K two lawful key s h id me.0 (Control d) is at).1 in (
-            (λ i. view me.0.key (is i)),
-            (
-              h.cur_is ∙ sym k.2,
-              subst (λ (c : ℕ). AreOnce c d.ended) (sym k.1) k.10,
-              subst (λ (c : ℕ). HaveSeen c d.ended) (sym k.2) (have_seen K x h.owners d.ended h.sound k.10 k.9),
-            ),
+          (λ d is. let say = fits_at K G two lawful names key s h id me.0 (Control d) is at in let k = say.1 in (
+            h.cur_is ∙ sym k.version_is,
+            subst (λ (c : ℕ). AreOnce c d.ended) (sym k.readers_are) k.once,
+            subst (λ (c : ℕ). HaveSeen c d.ended) (sym k.version_is) (have_seen K G x h.owners d.ended h.sound k.once k.ended_fit),
+            subst (λ (n : ℕ). IsOneHistory K G n d.version me.0.steps d.ended) (sym k.readers_are)
+                (record { events = h.events; leads = ap (λ (w : World). w.cur) h.ran ∙ sym k.version_is; control = say.2.0; readers = say.2.2 }),
+            all_tallied K G two lawful names key s h id me.0 d at is,
           )),
-          (s, subst (λ q. EpochRule K lawful q s) (sym keyed) h, id, at, refl),
         ),
       )
 
-  pub closing_at : (slots id : ℕ) (me : Mine Q C) (d : ControlOwn) → me.0.role ≡ Control d → Allows Rule slots id me 0 (λ n. n) (closes lawful K me)
+  pub closing_at : (slots id : ℕ) (me : Mine Q C) (d : ControlOwn) → me.0.role ≡ Control d → Allows Rule slots id me 0 (λ n. n) (closes K G me)
   closing_at slots id me own role s h deep at small = let r = closing slots id me own role s h deep at small in (r.0, r.1, r.2, r.3.0, r.4)
 
   -- once the control has taken in as many seats as there are readers, none is left
   pub none_left : (s : St) (h : Rule s) (id : ℕ) (v : View Q) (d : ControlOwn) → get_elem? s.views id ≡ some v → v.role ≡ Control d → d.readers ≤ length d.ended → NoneIsLeft K h.world s.views
   none_left s h id v d at is many =
       let x = h.world in
-      let k = (fits_at K two lawful key s h id v (Control d) is at).1 in
+      let k = (fits_at K G two lawful names key s h id v (Control d) is at).1 in
       let ended : (r : ℕ) → r < x.readers → (h.owners.ended r ≡ true) × ((x.reader_at r).own.phase ≡ Idle) =
-      λ r l. ended_at x h.owners r d.ended k.9 (all_at_once x.readers d.ended k.10 (let e = k.1 in omega arith) r l) in record {
-        no_seat = λ j r u o there reads. let f = (fits_at K two lawful key s h j u (Reader r o) reads there).1 in true≢false (sym (ended r f.0).0 ∙ f.4);
+      λ r l. ended_at x h.owners r d.ended k.ended_fit (all_at_once x.readers d.ended k.once (let e = k.readers_are in omega arith) r l) in record {
+        no_seat = λ j r u o there reads. let f = (fits_at K G two lawful names key s h j u (Reader r o) reads there).1 in true≢false (sym (ended r f.0).0 ∙ f.4);
         outside = λ r l. (ended r l).1;
         silent = λ r l. let y = x.reader_at r in subst (λ (p : Phase). PhaseFits K x.cur y.ann y.own.seen y.passed p) (ended r l).1 (h.sound.each_reader r l).phase;
         free = λ r bank l near with_reader. let y = x.reader_at r in subst (λ (p : Phase). HoldsBank K bank p) (ended r l).1 (((h.sound.each_reader r l).places bank near).with_reader.0 with_reader);
@@ -149,11 +103,11 @@ module _ {Q : Type 0} where
       one_more false c n e f = let same : cond {A = ℕ} false 1 0 + n ≡ n = omega arith in same ∙ e
 
   -- the readers below n that have ended, as many as these seats and some others, are those of these seats alone
-  pub one_of_each : (n : ℕ) (seats : List (ReaderView Q)) (others : List (ℕ × Own)) → AreOnce n (readers_of seats ++ others) → n ≤ length seats → IsOneOfEach n seats × (readers_of seats ++ others ≡ readers_of seats)
+  pub one_of_each : (n : ℕ) (seats : List (ReaderView Q)) (others : List Ended) → AreOnce n (readers_of seats ++ others) → n ≤ length seats → IsOneOfEach n seats × (readers_of seats ++ others ≡ readers_of seats)
   one_of_each n seats [] a long =
       let whole : readers_of seats ++ [] ≡ readers_of seats = append-nil (readers_of seats) in
       let once : AreOnce n (readers_of seats) = subst (AreOnce n) whole a in
-      let same : length (readers_of seats) ≡ length seats = length-map seats (λ (s : ReaderView Q). (s.number, s.own)) in
+      let same : length (readers_of seats) ≡ length seats = length-map seats (λ (s : ReaderView Q). (s.number, s.own, s.steps)) in
       let few = few_at_once n (readers_of seats) once in (
         record {
           count = omega arith;
@@ -163,7 +117,7 @@ module _ {Q : Type 0} where
       )
   one_of_each n seats (p ∷ ps) a long =
       let few = few_at_once n (readers_of seats ++ p ∷ ps) a in
-      let same : length (readers_of seats) ≡ length seats = length-map seats (λ (s : ReaderView Q). (s.number, s.own)) in
+      let same : length (readers_of seats) ≡ length seats = length-map seats (λ (s : ReaderView Q). (s.number, s.own, s.steps)) in
       absurd (omega (arith, length-append (readers_of seats) (p ∷ ps)))
 
   pub have_all_seen : (version : ℕ) (seats : List (ReaderView Q)) → HaveSeen version (readers_of seats) → All (λ s. s.own.seen ≤ version) seats × All (λ s. s.own.phase ≡ Idle) seats
@@ -179,15 +133,15 @@ module _ {Q : Type 0} where
       out rest (suc k) d l = rest.1 k d (omega arith)
 
   -- only the seats taken in change, twice in turn
-  pub taken_on : (a b c : ControlView Q) (l : List (ℕ × Own)) → b ≡ record a { own = record a.own { ended = b.own.ended } } → c ≡ record b { own = record b.own { ended = l } } → c ≡ record a { own = record a.own { ended = c.own.ended } }
+  pub taken_on : (a b c : ControlView Q) (l : List Ended) → b ≡ record a { own = record a.own { ended = b.own.ended } } → c ≡ record b { own = record b.own { ended = l } } → c ≡ record a { own = record a.own { ended = c.own.ended } }
   taken_on a b c l before now =
-      let with : ControlView Q → List (ℕ × Own) → ControlView Q = λ v l. record v { own = record v.own { ended = l } } in
-      now ∙ (ap (λ (v : ControlView Q). with v l) before ∙ ap (λ (k : List (ℕ × Own)). with a k) (sym (ap (λ (v : ControlView Q). v.own.ended) now)))
+      let with : ControlView Q → List Ended → ControlView Q = λ v l. record v { own = record v.own { ended = l } } in
+      now ∙ (ap (λ (v : ControlView Q). with v l) before ∙ ap (λ (k : List Ended). with a k) (sym (ap (λ (v : ControlView Q). v.own.ended) now)))
 
   -- one more seat is taken in
-  pub readers_more : (seats : List (ReaderView Q)) (s : ReaderView Q) (others : List (ℕ × Own)) → readers_of seats ++ (s.number, s.own) ∷ others ≡ readers_of (seats ++ s ∷ []) ++ others
+  pub readers_more : (seats : List (ReaderView Q)) (s : ReaderView Q) (others : List Ended) → readers_of seats ++ (s.number, s.own, s.steps) ∷ others ≡ readers_of (seats ++ s ∷ []) ++ others
   readers_more [] s others = refl
-  readers_more (x ∷ seats) s others = ap (λ (ps : List (ℕ × Own)). (x.number, x.own) ∷ ps) (readers_more seats s others)
+  readers_more (x ∷ seats) s others = ap (λ (ps : List Ended). (x.number, x.own, x.steps) ∷ ps) (readers_more seats s others)
 
 -- what holds of all seats holds of those before the last
 pub all_popped : {A : Type 0} (P : A → Type 0) (whole xs : List A) (x : A) → whole ≡ xs ++ x ∷ [] → All P whole → All P xs

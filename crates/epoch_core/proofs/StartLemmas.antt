@@ -1,5 +1,5 @@
 -- The table at the start meets the rule.
-use Rattle.std.proofs.Common.{◌≡◌, ℕ, zero, suc, ◌+◌, ◌<◌, ◌≤◌, false, List, [], ◌∷◌, ◌++◌, map, length, length-append, get_or, replicate, Option, Some, None, refl, sym, ap, ◌∙◌, subst, arith, lit≤, lit<}
+use Rattle.std.proofs.Common.{◌≡◌, ℕ, zero, suc, ◌+◌, ◌*◌, ◌<◌, ◌≤◌, false, List, [], ◌∷◌, ◌++◌, map, length, length-append, get_or, replicate, Option, Some, None, refl, sym, ap, ◌∙◌, subst, arith, lit≤, lit<}
 use mathlib.Core.Option.{some, some-injective, some-ne-none}
 use mathlib.Core.Logic.{dite}
 use native.Mathlib.Decide.{ℕ_discrete}
@@ -11,7 +11,7 @@ use Rattle.epoch_core.specs.World.{first_own}
 use Rattle.epoch_core.specs.SeatViews.{ReaderView, AreFirstSeats}
 use Rattle.atomic_table.specs.Seated.{TableId}
 use Rattle.std.specs.Prelude.{slice_index_or}
-use Rattle.epoch_core.specs.Rule.{RoleFits, KeyFits, EpochRule, ValueFits, slot_of, opening_view}
+use Rattle.epoch_core.specs.Rule.{RoleFits, KeyFits, PartFits, EpochRule, ValueFits, slot_of, opening_view}
 use Rattle.epoch_core.specs.Slots.{FirstSlot, FirstSlots}
 use Rattle.epoch_core.proofs.ReaderLemmas.{replaced_at_here, replaced_at_else}
 use Rattle.epoch_core.proofs.WorldLemmas.{opening_sound}
@@ -30,18 +30,22 @@ first_slots_at P n i [] j a l = absurd (omega arith)
 first_slots_at P n i (x ∷ xs) zero a l = let e : i ≡ i + 0 = omega arith in (x, refl, subst (λ (k : ℕ). FirstSlot P n k x) e a.0)
 first_slots_at P n i (x ∷ xs) (suc j) a l = let r = first_slots_at P n (i + 1) xs j a.1 (omega arith) in let e : i + 1 + j ≡ i + suc j = omega arith in (r.0, r.1, subst (λ (k : ℕ). FirstSlot P n k r.0) e r.2)
 
-module _ {Q C : Type 0} (lawful : Q → ℕ → C → Type 0) (key : Q) where
-  pub table_starts : (n : ℕ) (words : List ℕ) (slots : List (Option C)) → n ≤ 64 → length words ≡ 65 → ((i : ℕ) → i < 65 → get_or words i 0 ≡ 0) → length slots ≡ 256 → FirstSlots (lawful key 0) n 0 slots → EpochRule 4 lawful key (opening words slots (opening_view key n))
-  table_starts n words slots few wide blank deep laid = record {
+module _ {Q C : Type 0} (K G : ℕ) (two : 2 ≤ K) (lawful : Q → ℕ → C → Type 0) (names : Q → ℕ → List (ℕ × ℕ)) (key : Q) where
+  pub table_starts : (n numbers : ℕ) (words : List ℕ) (slots : List (Option C)) → n ≤ 64 → length words ≡ 65 + (G + 1) → ((i : ℕ) → i < 65 + (G + 1) → get_or words i 0 ≡ 0) → length slots ≡ 64 * K → names key 0 ≡ [] → FirstSlots (lawful key 0) n 0 slots → EpochRule K G lawful names key (opening words slots (opening_view key n numbers))
+  table_starts n numbers words slots few wide blank deep bare laid = record {
     world = w.opening n;
     owners = record { reader_seat = λ _. 0; note_seat = λ _. 0; control_seat = 0; opened = 0; ended = λ _. false };
-    sound = opening_sound 4 (lit≤ tt) n;
+    events = [];
+    ran = refl;
+    sound = opening_sound K G two n;
     few = few;
     low = lit< tt;
     wide = wide;
     deep = length-map slots (λ (x : Option C). some x) ∙ deep;
-    cur_is = blank 0 (lit< tt);
+    cur_is = blank 0 (omega arith);
     ann_is = λ r l. blank (1 + r) (omega arith);
+    word_is = λ i l. blank (65 + i) (omega arith);
+    names_are = λ v l. no_names v (omega arith);
     each_view = go;
     each_place = λ r b l m. let got = first_slots_at (lawful key 0) n 0 slots (slot_of b r) laid (omega arith) in (
       got.0,
@@ -52,15 +56,21 @@ module _ {Q C : Type 0} (lawful : Q → ℕ → C → Type 0) (key : Q) where
     );
   }
     where
-      go : (j : ℕ) (v : View Q) → get_elem? (opening_view key n ∷ []) j ≡ some v → KeyFits v.role (v.key ≡ key) × RoleFits (w.opening n) record { reader_seat = λ _. 0; note_seat = λ _. 0; control_seat = 0; opened = 0; ended = λ _. false } j v.role
-      go zero v e = subst (λ (u : View Q). KeyFits u.role (u.key ≡ key) × RoleFits (w.opening n) record { reader_seat = λ _. 0; note_seat = λ _. 0; control_seat = 0; opened = 0; ended = λ _. false } 0 u.role) (some-injective _ _ e)
-          (refl, (refl, refl, refl, (λ r l. lt_zero r), refl, refl, refl, refl, (λ q l. (refl, refl)), tt, tt))
+      go : (j : ℕ) (v : View Q) → get_elem? (opening_view key n numbers ∷ []) j ≡ some v → KeyFits v.role (v.key ≡ key) × RoleFits (w.opening n) record { reader_seat = λ _. 0; note_seat = λ _. 0; control_seat = 0; opened = 0; ended = λ _. false } j v.role × PartFits [] v.role v.steps
+      go zero v e = subst (λ (u : View Q). KeyFits u.role (u.key ≡ key) × RoleFits (w.opening n) record { reader_seat = λ _. 0; note_seat = λ _. 0; control_seat = 0; opened = 0; ended = λ _. false } 0 u.role × PartFits [] u.role u.steps) (some-injective _ _ e)
+          (refl, record { its_seat = refl; readers_are = refl; version_is = refl; passed_are = (λ r l. lt_zero r); scans_are = refl; found_is = refl; made_are = refl; opened_are = refl; unopened = (λ q l. (refl, refl)); ended_fit = tt; once = tt; done_is = refl; booked_are = (λ p. refl); numbers_low = (λ i. omega arith); tally_fits = tt }, (refl, (λ r l. refl), tt))
       go (suc j) v e = absurd (some-ne-none v (sym e))
+
+      no_names : (v : ℕ) → v ≡ 0 → [] ≡ names key v
+      no_names v e = sym (ap (names key) e ∙ bare)
 
 pub all_zero : (n i : ℕ) → get_or {A = ℕ} (replicate n 0) i 0 ≡ 0
 all_zero zero i = refl
 all_zero (suc n) zero = refl
 all_zero (suc n) (suc i) = all_zero n i
+
+pub zero_at : (n : ℕ) (ws : List ℕ) → ws ≡ replicate n 0 → (i : ℕ) → get_or ws i 0 ≡ 0
+zero_at n ws e i = ap (λ l. get_or l i 0) e ∙ all_zero n i
 
 at_front : {A : Type 0} (xs : List A) (x d : A) (i : ℕ) → i < length xs → slice_index_or (xs ++ x ∷ []) i d ≡ slice_index_or xs i d
 at_front [] x d i l = absurd (omega arith)
@@ -72,11 +82,11 @@ at_last [] x d = refl
 at_last (y ∷ ys) x d = at_last ys x d
 
 -- one more seat is made
-pub first_seats_more : {Q : Type 0} (z : TableId) (q : Q) (n : ℕ) (seats : List (ReaderView Q)) (x : ReaderView Q) → AreFirstSeats z q n seats → x ≡ record { table = z; key = q; number = n; own = first_own } → AreFirstSeats z q (n + 1) (seats ++ x ∷ [])
+pub first_seats_more : {Q : Type 0} (z : TableId) (q : Q) (n : ℕ) (seats : List (ReaderView Q)) (x : ReaderView Q) → AreFirstSeats z q n seats → x ≡ record { table = z; key = q; number = n; own = first_own; steps = [] } → AreFirstSeats z q (n + 1) (seats ++ x ∷ [])
 first_seats_more z q n seats x are is =
     let count = are.0 in (
       omega (arith, length-append seats (x ∷ [])),
       λ i d l. dite (ℕ_discrete i n)
-          (λ e. ap (λ k. slice_index_or (seats ++ x ∷ []) k d) (e ∙ sym count) ∙ (at_last seats x d ∙ (is ∙ (λ j. record { table = z; key = q; number = sym e j; own = first_own }))))
+          (λ e. ap (λ k. slice_index_or (seats ++ x ∷ []) k d) (e ∙ sym count) ∙ (at_last seats x d ∙ (is ∙ (λ j. record { table = z; key = q; number = sym e j; own = first_own; steps = [] }))))
           (λ n. at_front seats x d i (omega arith) ∙ are.1 i d (omega arith)),
     )

@@ -1,7 +1,10 @@
 pub mod Closing
+pub mod Copied
+pub mod Counts
 pub mod Follows
+pub mod Fresh
+pub mod History
 pub mod Laws
-pub mod Moments
 pub mod Plain
 pub mod Plays
 pub mod Rule
@@ -10,4 +13,6 @@ pub mod SeatViews
 pub mod Slots
 pub mod Sound
 pub mod Step
+pub mod Sums
+pub mod Turns
 pub mod World

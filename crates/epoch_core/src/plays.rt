@@ -1,10 +1,10 @@
 //! What each step on the table tells.
-ghost use Rattle.std.specs.Prelude.{None};
+ghost use Rattle.std.specs.Prelude.{None, []};
 ghost use Rattle.std.specs.Arc.{arc_value};
-ghost use Rattle.epoch_core.specs.declared.laws.TheConstants.{BANKS};
 ghost use Rattle.epoch_core.specs.declared.view.Role.TheVariants.{Spent};
-ghost use Rattle.epoch_core.specs.Rule.{at_key};
-ghost use Rattle.epoch_core.specs.Plays.{looks, announces, enters, leaves, scans, publishes, seating, seated, telling, noted, learnt, ending, closes, in_role};
+ghost use Rattle.epoch_core.specs.Rule.{at_key, names_at_key};
+ghost use Rattle.epoch_core.specs.Plays.{looks, hits, reassigns, tallies, announces, enters, leaves, scans, publishes, seating, seated, telling_view, noted, learnt_view, ending_view, closes, in_role, as_new};
+ghost use Rattle.prefix_width.specs.Limits.{last_index};
 
 use crate::board::Lawful;
 use crate::view::View;
@@ -14,12 +14,10 @@ use std::marker::PhantomData;
 use std::sync::Arc;
 
 /// A reader loads the published version.
-pub(crate) struct Look<T> {
-    value: PhantomData<T>,
-}
+pub(crate) struct Look;
 
-impl<Q, T: Lawful<Q>> Play<Option<Arc<T, Global>>, View<Option<Q>>> for Look<T> {
-    ghost then = { λ _. looks (at_key (λ q v c. T.is_lawful q v (arc_value c))) BANKS };
+impl<Q, C> Play<Option<C>, View<Q>> for Look {
+    ghost then = { λ _. looks };
 }
 
 /// A reader announces the version that it looked at last.
@@ -30,12 +28,13 @@ impl<Q, C> Play<Option<C>, View<Q>> for Announce {
 }
 
 /// A reader loads the published version and takes its place there.
-pub(crate) struct Enter<T> {
+pub(crate) struct Enter<T, const K: u64, const LIVE: u32> {
     value: PhantomData<T>,
 }
 
-impl<Q, T: Lawful<Q>> Play<Option<Arc<T, Global>>, View<Option<Q>>> for Enter<T> {
-    ghost then = { λ _. enters (at_key (λ q v c. T.is_lawful q v (arc_value c))) BANKS };
+impl<Q, T: Lawful<Q>, const K: u64, const LIVE: u32> Play<Option<Arc<T, Global>>, View<Option<Q>>>
+    for Enter<T, K, LIVE> {
+    ghost then = { λ _. enters (at_key (λ q v c. T.is_lawful q v (arc_value c))) (names_at_key T.names) K (last_index K LIVE) };
 }
 
 /// A reader gives its place back and announces nothing any more.
@@ -45,38 +44,63 @@ impl<Q, C> Play<Option<C>, View<Q>> for Leave {
     ghost then = { λ _ m _ m'. leaves m m' };
 }
 
-/// The control loads a reader's announcement, and takes the reader's place if it may.
-pub(crate) struct Scan<T> {
+/// A reader counts one packet on an index word.
+pub(crate) struct Hit<T> {
     value: PhantomData<T>,
 }
 
-impl<Q, T: Lawful<Q>> Play<Option<Arc<T, Global>>, View<Option<Q>>> for Scan<T> {
-    ghost then = { λ _. scans (at_key (λ q v c. T.is_lawful q v (arc_value c))) BANKS };
+impl<Q, T: Lawful<Q>> Play<Option<Arc<T, Global>>, View<Option<Q>>> for Hit<T> {
+    ghost then = { λ t. hits (names_at_key T.names) t.word };
+}
+
+/// The control gives an index word to a number.
+pub(crate) struct Reassign;
+
+impl<Q, C> Play<Option<C>, View<Q>> for Reassign {
+    ghost then = { λ t. reassigns t.word t.first };
+}
+
+/// The control loads a reader's announcement, and takes the reader's place if it may.
+pub(crate) struct Scan<T, const K: u64> {
+    value: PhantomData<T>,
+}
+
+impl<Q, T: Lawful<Q>, const K: u64> Play<Option<Arc<T, Global>>, View<Option<Q>>> for Scan<T, K> {
+    ghost then = { λ _. scans (at_key (λ q v c. T.is_lawful q v (arc_value c))) K };
 }
 
 /// The control gives the places back and publishes.
-pub(crate) struct Publish;
+pub(crate) struct Publish<T> {
+    value: PhantomData<T>,
+}
 
-impl<Q, C> Play<Option<C>, View<Q>> for Publish {
-    ghost then = { λ _ m _ m'. publishes m m' };
+impl<Q, T: Lawful<Q>> Play<Option<Arc<T, Global>>, View<Option<Q>>> for Publish<T> {
+    ghost then = { λ _ m _ m'. publishes (names_at_key T.names) m m' };
+}
+
+/// The control tallies an index word.
+pub(crate) struct Tally;
+
+impl<Q, C> Play<Option<C>, View<Q>> for Tally {
+    ghost then = { λ t. tallies t.word };
 }
 
 /// The control makes a note.
 pub(crate) struct Tell;
 
 impl<Q> Split<View<Q>> for Tell {
-    ghost left = { in_role telling };
+    ghost left = { telling_view };
 
-    ghost right = { in_role noted };
+    ghost right = { as_new noted };
 }
 
 /// A reader takes a note in.
 pub(crate) struct Learn;
 
 impl<Q> Join<View<Option<Q>>> for Learn {
-    ghost both = { λ v u. record v { role = learnt v.role u.role } };
+    ghost both = { learnt_view };
 
-    ghost spent = { record { key = None; role = Spent } };
+    ghost spent = { record { key = None; role = Spent; steps = [] } };
 }
 
 /// The control makes a reader's seat.
@@ -85,23 +109,21 @@ pub(crate) struct Open;
 impl<Q> Split<View<Q>> for Open {
     ghost left = { in_role seating };
 
-    ghost right = { in_role seated };
+    ghost right = { as_new seated };
 }
 
 /// The control takes a reader's seat in.
 pub(crate) struct End;
 
 impl<Q> Join<View<Option<Q>>> for End {
-    ghost both = { λ v u. record v { role = ending v.role u.role } };
+    ghost both = { ending_view };
 
-    ghost spent = { record { key = None; role = Spent } };
+    ghost spent = { record { key = None; role = Spent; steps = [] } };
 }
 
 /// The control, which has taken seats in, loads the published version.
-pub(crate) struct Close<T> {
-    value: PhantomData<T>,
-}
+pub(crate) struct Close<const K: u64, const LIVE: u32>;
 
-impl<Q, T: Lawful<Q>> Play<Option<Arc<T, Global>>, View<Option<Q>>> for Close<T> {
-    ghost then = { λ _. closes (at_key (λ q v c. T.is_lawful q v (arc_value c))) BANKS };
+impl<Q, C, const K: u64, const LIVE: u32> Play<Option<C>, View<Q>> for Close<K, LIVE> {
+    ghost then = { λ _. closes K (last_index K LIVE) };
 }

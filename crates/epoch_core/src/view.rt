@@ -1,5 +1,7 @@
 //! What a seat at the table knows.
 
+use crate::event::Event;
+
 /// Where a reader stands.
 #[derive(Clone, Copy, Debug, PartialEq, Eq)]
 pub enum Phase {
@@ -86,6 +88,19 @@ pub struct Own {
     pub announces: u64,
     /// How often it has entered.
     pub enters: u64,
+    /// The number of each of its hits, the latest first. A contract reads an array as a list.
+    pub hits: [u64; 0],
+}
+
+/// A step that a seat made, in the history of its table. Contracts alone speak of it.
+pub struct Made {
+    /// Which of the table's steps on words it was, counted from 1; 0 where it was on no word, as at
+    /// a note.
+    pub at: u64,
+    /// The event that it was.
+    pub event: Event,
+    /// The number that it found in its word, or stored there; the version at a note.
+    pub number: u64,
 }
 
 /// What the control knows. Contracts alone speak of it: no value of this type is made.
@@ -104,9 +119,17 @@ pub struct ControlOwn {
     pub made: u64,
     /// How many readers' seats it has made.
     pub opened: u64,
-    /// The readers whose seats it has taken in, each with its numbers. A contract reads an array as
-    /// a list.
-    pub ended: [(u64, Own); 0],
+    /// The readers whose seats it has taken in, each with its numbers and its steps. A contract
+    /// reads an array as a list.
+    pub ended: [(u64, Own, [Made; 0]); 0],
+    /// The indexes whose words it has given to numbers since it published last, the latest first.
+    pub done: [(u64, u64); 0],
+    /// The number and the count that it found in each word that it gave away, the latest first.
+    pub booked: [(u64, u64); 0],
+    /// The indexes whose words it has tallied, each with what it found, the latest first.
+    pub tallied: [(u64, u64); 0],
+    /// The greatest number.
+    pub numbers: u64,
 }
 
 /// What a seat at the table is. Contracts alone speak of it.
@@ -121,10 +144,13 @@ pub enum Role {
     Note(u64, u64),
 }
 
-/// What a seat knows: what its table is for, and what it is. Contracts alone speak of it.
+/// What a seat knows: what its table is for, what it is, and what it has done. Contracts alone
+/// speak of it.
 pub struct View<Q> {
     /// What the table is for.
     pub key: Q,
     /// What the seat is.
     pub role: Role,
+    /// The steps that it has made, in order.
+    pub steps: [Made; 0],
 }
