@@ -7,25 +7,13 @@ use Rattle.std.proofs.lemmas.List.Elements.{All-from_recursion}
 use Rattle.std.proofs.lemmas.Option.{get_or_from_slice_get}
 use Rattle.prefix_width.specs.Prefix.{Block, IsBlock}
 use Rattle.module_trait.specs.Rows.{AreBlocks, HaveIndexes}
-use Rattle.row_cells.specs.Starts.{AreRight, IsUp, index_at, starts_of}
-use Rattle.row_cells.proofs.StartLemmas.{in-starts, up-starts}
-use Rattle.row_cells.proofs.UpLemmas.{IsIn, in-all}
-use Rattle.dxr_table.proofs.RunLemmas.{cells_answer}
-use Rattle.dxr_table.specs.Dxr.{AreFragments, AreRightChunks, Dxr, HasChunks, IsChunk, index_in, run_of, IsDxrOf}
-
--- the cells of rows ascend from 0
-pub up_cells : (rows : List (Block × ℕ)) (cells : List (ℕ × ℕ)) → keys_of cells ≡ starts_of 32 rows → IsUp (keys_of cells)
-up_cells rows cells starts = subst IsUp (sym starts) (up-starts 32 rows)
-
-pub first_cell : (rows : List (Block × ℕ)) (cells : List (ℕ × ℕ)) → keys_of cells ≡ starts_of 32 rows → slice_get (keys_of cells) 0 ≡ Some 0
-first_cell rows cells starts = ap (λ xs. slice_get xs 0) starts ∙ go (starts_of 32 rows) (up-starts 32 rows) (in-starts 32 rows 0 (inl refl))
-  where
-    go : (xs : List ℕ) → IsUp xs → IsIn 0 xs → slice_get xs 0 ≡ Some 0
-    go [] up is = absurd is
-    go (x ∷ xs) up is = elim is [
-      | inl e ↦ ap Some (sym e)
-      | inr later ↦ absurd (let less = in-all (λ y. x < y) xs 0 up.0 later in omega (arith, less))
-    ]
+use Rattle.module_trait.specs.Starts.{AreRight, IsUp, index_at, starts_of, IsIn}
+use Rattle.module_trait.proofs.StartLemmas.{in-starts, up-starts}
+use Rattle.module_trait.proofs.UpLemmas.{in-all}
+use Rattle.dxr_chunks.proofs.CellLemmas.{first_cell, up_cells}
+use Rattle.dxr_chunks.proofs.RunLemmas.{cells_answer}
+use Rattle.dxr_table.specs.Dxr.{AreRightChunks, Dxr, HasChunks, IsChunk, run_of, IsDxrOf}
+use Rattle.dxr_chunks.specs.Fragments.{AreFragments, index_in}
 
 module _ (answer : ℕ → ℕ) (table : Dxr) (k first end : ℕ) (chunk : IsChunk answer k (slice_index table.indexes k) (run_of table k)) (from : slice_get table.firsts k ≡ Some first) (to : slice_get table.firsts (k + 1) ≡ Some end) where
   run_is : run_of table k ≡ slice_range table.fragments first end
@@ -74,9 +62,6 @@ same_chunks f g table same chunks = λ k h. elim (chunks k h) [
     },
   )
 ]
-
-pub whole_address : (a : ℕ) → a / 65536 * 65536 + a % 65536 ≡ a
-whole_address a = omega arith
 
 -- a table of the cells of rows stands for the rows
 pub stands_for : (rows : List (Block × ℕ)) (cells : List (ℕ × ℕ)) (table : Dxr) → AreBlocks 32 rows → HaveIndexes rows → keys_of cells ≡ starts_of 32 rows → AreRight 32 rows cells → AreRightChunks (index_in cells) (2 ^ 16) table → IsDxrOf rows table

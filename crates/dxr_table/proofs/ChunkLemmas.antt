@@ -4,9 +4,11 @@ use Rattle.std.specs.List.{slice_index, slice_range}
 use Rattle.std.proofs.lemmas.Bool.{cases_lt}
 use Rattle.std.proofs.lemmas.List.{append-nil, drop_at, drop-append-le, take-append-le, take_all, get_or_append_left, get_or_push, length-append, length-drop, length_push}
 use Rattle.std.proofs.lemmas.Option.{get_or_from_slice_get, slice_get-get_or}
-use Rattle.dxr_table.specs.Dxr.{AreFragments, Dxr, IsChunk, index_in, run_of}
-use Rattle.dxr_table.specs.Making.{AddsRun, AreMade}
-use Rattle.dxr_table.proofs.RunLemmas.{index_push_below}
+use Rattle.dxr_table.specs.Dxr.{Dxr, IsChunk, run_of}
+use Rattle.dxr_chunks.specs.Fragments.{AreFragments, index_in}
+use Rattle.dxr_table.specs.Making.{AreMade}
+use Rattle.dxr_chunks.specs.Making.{AddsRun}
+use Rattle.dxr_chunks.proofs.RunLemmas.{index_push_below}
 
 -- what is added behind fragments for a chunk with this index
 pub record IsAdded (answer : ℕ → ℕ) (k index : ℕ) (old new : List (ℕ × ℕ)) : Type 0 where

@@ -1,5 +1,2 @@
 pub mod AnswerLemmas
 pub mod ChunkLemmas
-pub mod FillLemmas
-pub mod FindLemmas
-pub mod RunLemmas

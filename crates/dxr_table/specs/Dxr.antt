@@ -1,11 +1,10 @@
 -- Direct cells by the leading half of an address of 32 bits, and runs of fragments by the other half. The addresses with
 -- one value k of the 16 leading bits are chunk k.
-use Rattle.std.specs.Prelude.{◌≡◌, ◌≢◌, ◌⊎◌, ℕ, ◌+◌, ◌*◌, ◌^◌, ◌<◌, ◌≤◌, nat_lt, nat_le, List, [], ◌∷◌, Some, length, slice_get, slice_index, slice_range, if◌then◌else◌}
-use Rattle.std.specs.List.{fold}
-use Rattle.std.specs.Map.{keys_of}
+use Rattle.std.specs.Prelude.{◌≡◌, ◌⊎◌, ℕ, ◌+◌, ◌^◌, ◌<◌, ◌≤◌, List, [], length, slice_index, slice_range}
 use Rattle.prefix_width.specs.Prefix.{Block}
 use Rattle.module_trait.specs.Rows.{AreBlocks, HaveIndexes}
-use Rattle.row_cells.specs.Starts.{index_at}
+use Rattle.module_trait.specs.Starts.{index_at}
+use Rattle.dxr_chunks.specs.Fragments.{AreFragments, IsDirect}
 
 -- what a table is seen as: the place of each chunk's first fragment, with the number of all fragments behind them; the
 -- index of each chunk that has no fragment; and the fragments of all chunks, each a start inside its chunk with an index
@@ -17,27 +16,6 @@ pub record Dxr : Type 0 where
 -- the fragments of a chunk: from its first one to the next chunk's
 abbrev pub run_of : Dxr → ℕ → List (ℕ × ℕ)
 run_of table k = slice_range table.fragments (slice_index table.firsts k) (slice_index table.firsts (k + 1))
-
--- the index of the last cell that starts at or below a place, 0 where there is none
-abbrev pub index_in : List (ℕ × ℕ) → ℕ → ℕ
-index_in cells x = fold (λ index cell. if nat_le cell.0 x then cell.1 else index) 0 cells
-
--- each cell starts below the next one, and has another index
-abbrev pub IsAlternating : List (ℕ × ℕ) → Type 0
-IsAlternating [] = Unit {0}
-IsAlternating (f ∷ []) = Unit {0}
-IsAlternating (f ∷ g ∷ run) = (f.0 < g.0) × (f.1 ≢ g.1) × IsAlternating (g ∷ run)
-
--- the fragments begin at 0, alternate, and give the answer at each address of chunk k
-pub record AreFragments (answer : ℕ → ℕ) (k : ℕ) (run : List (ℕ × ℕ)) : Type 0 where
-  pub first : slice_get (keys_of run) 0 ≡ Some 0
-  pub alternating : IsAlternating run
-  pub few : length run ≤ 2 ^ 16
-  pub right : (x : ℕ) → x < 2 ^ 16 → index_in run x ≡ answer (k * 2 ^ 16 + x)
-
--- one index is the answer at every address of chunk k
-abbrev pub IsDirect : (ℕ → ℕ) → ℕ → ℕ → Type 0
-IsDirect answer k index = (x : ℕ) → x < 2 ^ 16 → index ≡ answer (k * 2 ^ 16 + x)
 
 -- chunk k has no fragment, and one index is its answer, or it has a run of two fragments or more
 abbrev pub IsChunk : (ℕ → ℕ) → ℕ → ℕ → List (ℕ × ℕ) → Type 0
@@ -59,7 +37,3 @@ pub record IsDxrOf (rows : List (Block × ℕ)) (table : Dxr) : Type 0 where
   pub blocks : AreBlocks 32 rows
   pub indexed : HaveIndexes rows
   pub chunks : AreRightChunks (index_at 32 rows) (2 ^ 16) table
-
--- how much the table is preferred for a number of routes
-abbrev pub preference_of : ℕ → ℕ
-preference_of routes = if nat_lt routes 1000 then 150 else 240

@@ -1,9 +1,11 @@
 ghost use Rattle.std.specs.Prelude.{◌≡◌, ◌≢◌, ℕ, ◌+◌, ◌*◌, ◌^◌, ◌<◌, ◌≤◌, [], ◌∷◌, ◌++◌, List, Some, IfOk, OnOk, length, slice_get, vec_len};
 ghost use Rattle.std.specs.Map.{keys_of};
-ghost use Rattle.row_cells.specs.Starts.{IsUp};
-ghost use Rattle.dxr_table.specs.Making.{ArePassed, AddsRun, AreMade};
+ghost use Rattle.module_trait.specs.Starts.{IsUp};
+ghost use Rattle.dxr_chunks.specs.Making.{ArePassed};
+ghost use Rattle.dxr_table.specs.Making.{AreMade};
 
 use crate::OutOfMemory;
+use dxr_chunks::{add_run, pass_border};
 use std::alloc::Global;
 use std::marker::Model;
 
@@ -92,79 +94,6 @@ fn place_of(place: usize) -> Result<u32, OutOfMemory>
         Ok(short) => Ok(short),
         Err(_) => Err(OutOfMemory),
     }
-}
-
-/// The first address of a chunk.
-fn base_of(chunk: u32) -> u128
-    ensures { result ≡ chunk * 2 ^ 16 }
-{
-    u128::from(chunk) * 65_536
-}
-
-/// How many cells start at or below the first address of a chunk, below which so many start.
-fn pass_border(cells: &[(u128, u16)], passed: usize, chunk: u32) -> usize
-    requires first { slice_get (keys_of cells.now) 0 ≡ Some 0 }
-    requires ascending { IsUp (keys_of cells.now) }
-    requires passed { ArePassed cells.now (chunk * 2 ^ 16) passed }
-    ensures some { 0 < result }
-    ensures passed { ArePassed cells.now (chunk * 2 ^ 16 + 1) result }
-{
-    let base = base_of(chunk);
-    if passed == cells.len() {
-        return passed;
-    }
-    if cells[passed].0 == base {
-        passed + 1
-    } else {
-        passed
-    }
-}
-
-/// Adds the run of a chunk, at or below whose first address so many cells start. The answer is how
-/// many start below the addresses of the chunk behind it. Neighbours with one index are merged.
-fn add_run(
-    fragments: &mut Vec<(u16, u16)>,
-    cells: &[(u128, u16)],
-    begun: usize,
-    chunk: u32,
-) -> Result<usize, OutOfMemory>
-    requires ascending { IsUp (keys_of cells.now) }
-    requires chunk { chunk < 2 ^ 16 }
-    requires some { 0 < begun }
-    requires begun { ArePassed cells.now (chunk * 2 ^ 16 + 1) begun }
-    ensures passed { IfOk result (ArePassed cells.now ((chunk + 1) * 2 ^ 16)) }
-    ensures run { OnOk result (AddsRun cells.now chunk fragments.old.items fragments.new.items) }
-{
-    let base = base_of(chunk);
-    let mut index = cells[begun - 1].1;
-    fragments.push((0, index))?;
-    let mut passed = begun;
-    while passed < cells.len() {
-        let cell = cells[passed];
-        let start = cell.0 - base;
-        if start >= 65_536 {
-            break;
-        }
-        push_changed(fragments, (start as u16, cell.1), index)?;
-        index = cell.1;
-        passed += 1;
-    }
-    Ok(passed)
-}
-
-/// Adds a fragment, unless it has the index before it.
-fn push_changed(
-    fragments: &mut Vec<(u16, u16)>,
-    fragment: (u16, u16),
-    before: u16,
-) -> Result<(), OutOfMemory>
-    ensures other { fragment.1 ≢ before → OnOk result (fragments.new.items ≡ fragments.old.items ++ fragment ∷ []) }
-    ensures same { fragment.1 ≡ before → OnOk result (fragments.new.items ≡ fragments.old.items) }
-{
-    if fragment.1 != before {
-        fragments.push(fragment)?;
-    }
-    Ok(())
 }
 
 /// Takes a run of one fragment, which begins at a place, out again: its index answers everywhere. A

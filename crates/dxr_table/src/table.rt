@@ -1,14 +1,14 @@
-ghost use Rattle.std.specs.Prelude.{◌≡◌, ℕ, ◌+◌, ◌-◌, ◌*◌, ◌^◌, ◌<◌, ◌≤◌, Some, IfOk, length, min, slice_get, slice_range};
+ghost use Rattle.std.specs.Prelude.{◌≡◌, ℕ, ◌+◌, ◌*◌, ◌^◌, ◌<◌, ◌≤◌, Some, IfOk, length, min, slice_get};
 ghost use Rattle.std.specs.Map.{keys_of};
-ghost use Rattle.row_cells.specs.Starts.{IsUp};
-ghost use Rattle.dxr_table.specs.Dxr.{IsAlternating, index_in, AreRightChunks, IsDxrOf, preference_of};
+ghost use Rattle.module_trait.specs.Starts.{IsUp};
+ghost use Rattle.dxr_table.specs.Dxr.{AreRightChunks, IsDxrOf};
 ghost use Rattle.dxr_table.specs.Making.{AnswersAs};
 
 use crate::OutOfMemory;
 use crate::making::chunks_of;
-use module_trait::{Cells, Edit, Module, RouteView, Steps, Verdict};
+use dxr_chunks::index_in_run;
+use module_trait::{CellReads, Cells, Edit, Module, RouteView, Steps, Verdict, cells_of};
 use prefix_width::{Addr, Prefix};
-use row_cells::cells_of;
 use std::alloc::Global;
 use std::marker::Model;
 use std::sync::ledger::Ledger;
@@ -78,43 +78,10 @@ impl DxrTable {
     }
 }
 
-/// Half a run forward where the fragment there starts at or below the offset, else the same place.
-/// This is computed, since a branch on it would be mispredicted every other time.
-fn forward_if_below(low: usize, half: usize, start: u16, offset: u16) -> usize
-    requires { low + half ≤ usize.MAX }
-    ensures below { start ≤ offset → result ≡ low + half }
-    ensures above { offset < start → result ≡ low }
-{
-    let below = (u32::from(offset) + 65_536 - u32::from(start)) / 65_536;
-    low + half * below as usize
-}
-
-/// The index of the last fragment from one place up to another that starts at or below an offset.
-fn index_in_run<L: Ledger>(
-    fragments: &Cells<(u16, u16)>,
-    first: usize,
-    end: usize,
-    offset: u16,
-    steps: &mut Steps<L>,
-) -> u16
-    requires some { first < end }
-    requires within { end ≤ length fragments.now }
-    ensures answer { IsAlternating (slice_range fragments.now first end) → slice_get (keys_of (slice_range fragments.now first end)) 0 ≡ Some 0 → result ≡ index_in (slice_range fragments.now first end) offset }
-    ensures cost { (bits : ℕ) → end - first ≤ 2 ^ bits → steps.new ≤ steps.old + bits + 1 }
-{
-    let mut low = first;
-    let mut size = end - first;
-    while size > 1 {
-        let half = size / 2;
-        let start = fragments.at(low + half, steps).0;
-        low = forward_if_below(low, half, start, offset);
-        size -= half;
-    }
-    fragments.at(low, steps).1
-}
-
 impl Module<32> for DxrTable {
     ghost use Rattle.module_trait.specs.declared.edit.Verdict.TheVariants.{Rebuild};
+    ghost use Rattle.prefix_width.specs.Choice.{preference as preferred};
+    ghost use Rattle.prefix_width.specs.declared.module.Kind.TheVariants.{Dxr};
 
     ghost stands = { λ table rows. IsDxrOf rows table };
 
@@ -124,7 +91,7 @@ impl Module<32> for DxrTable {
 
     ghost is_batch_verdict = { λ _ _ _ verdict. verdict ≡ Rebuild };
 
-    ghost preference = { preference_of };
+    ghost preference = { λ routes. preferred 32 routes Dxr };
 
     fn empty(alloc: Global) -> Result<Self, OutOfMemory> {
         let table = DxrTable::of_cells(alloc, &[(0, 0)])?;
@@ -153,6 +120,7 @@ impl Module<32> for DxrTable {
         edit: &Edit<32>,
         view: &RouteView<32>,
     ) -> Result<Verdict, OutOfMemory> {
+        // Built whole, it takes no edit.
         Ok(Verdict::Rebuild)
     }
 

@@ -1,7 +1,7 @@
 -- The check sum of answers.
 use Rattle.std.specs.Prelude.{ℕ, ◌+◌, ◌*◌, ◌%◌, ◌^◌, List, [], ◌∷◌, map}
 use Rattle.prefix_width.specs.Prefix.{Block}
-use Rattle.row_cells.specs.Starts.{index_at}
+use Rattle.module_trait.specs.Starts.{index_at}
 
 -- numbers times their places, added up; the first place is given
 abbrev pub weighed : ℕ → List ℕ → ℕ

@@ -1,6 +1,6 @@
 ghost use Rattle.std.specs.Prelude.{◌≡◌, ◌+◌, ◌-◌, ◌^◌, ◌<◌, ◌≤◌, IfOk, OnOk, length};
 ghost use Rattle.module_trait.specs.Rows.{AreRows, HaveIndexes};
-ghost use Rattle.row_cells.specs.Starts.{starts_of, with_end_of};
+ghost use Rattle.module_trait.specs.Starts.{starts_of, with_end_of};
 ghost use Rattle.std.specs.BTreeSet.{insert_key};
 ghost use Rattle.std.specs.Option.{SomeIff};
 ghost use Rattle.std.specs.Ordering.{nat_cmp};

@@ -1,7 +1,7 @@
 -- The sum so far with what is left is the check sum of all.
 use Rattle.std.proofs.Common.{◌≡◌, ◌+◌, ◌%◌, ◌^◌, List, ℕ, drop, map}
 use Rattle.prefix_width.specs.Prefix.{Block}
-use Rattle.row_cells.specs.Starts.{index_at}
+use Rattle.module_trait.specs.Starts.{index_at}
 use Rattle.engine_bench.specs.Sum.{weighed, check_sum}
 use Rattle.engine_bench.proofs.measure.sum_of.Given as goal
 

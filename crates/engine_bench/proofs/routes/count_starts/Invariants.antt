@@ -2,7 +2,7 @@ use Rattle.std.proofs.Common.{◌≡◌, drop}
 use Rattle.std.specs.BTreeSet.{insert_key}
 use Rattle.std.specs.List.{fold}
 use Rattle.std.specs.Ordering.{nat_cmp}
-use Rattle.row_cells.specs.Starts.{starts_of, with_end_of}
+use Rattle.module_trait.specs.Starts.{starts_of, with_end_of}
 use Rattle.engine_bench.proofs.routes.count_starts.Given as goal
 
 abbrev pub invariant-loop-row : goal.invariant-loop-row

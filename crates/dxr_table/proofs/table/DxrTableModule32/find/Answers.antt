@@ -1,7 +1,7 @@
 use Rattle.std.proofs.Common.{◌≡◌, ◌∙◌, ap}
-use Rattle.row_cells.specs.Starts.{index_at}
-use Rattle.row_cells.proofs.IndexLemmas.{index_longest, one_is_some, zero_is_none}
-use Rattle.dxr_table.proofs.AnswerLemmas.{whole_address}
+use Rattle.module_trait.specs.Starts.{index_at}
+use Rattle.module_trait.proofs.IndexLemmas.{index_longest, one_is_some, zero_is_none}
+use Rattle.dxr_chunks.proofs.CellLemmas.{whole_address}
 use Rattle.dxr_table.proofs.table.DxrTableModule32.find.Goals as goal
 
 pub returns-then-index-eq0-clause-answer : goal.returns-then-index-eq0-clause-answer

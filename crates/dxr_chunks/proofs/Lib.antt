@@ -1,0 +1,11 @@
+pub mod ApplyLemmas
+pub mod CellLemmas
+pub mod ChunkLemmas
+pub mod FillLemmas
+pub mod FindLemmas
+pub mod PieceLemmas
+pub mod RowLemmas
+pub mod RunLemmas
+pub mod TableLemmas
+pub mod TestLemmas
+pub mod TouchLemmas

@@ -1,0 +1,9 @@
+pub mod Cell
+pub mod Chunk
+pub mod Form
+pub mod Fragments
+pub mod Making
+pub mod Pieces
+pub mod Store
+pub mod Table
+pub mod Touch

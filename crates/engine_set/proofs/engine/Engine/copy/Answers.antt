@@ -1,0 +1,6 @@
+use Rattle.std.proofs.Common.{subst}
+use Rattle.engine_set.specs.Engine.{Stands}
+use Rattle.engine_set.proofs.engine.Engine.copy.Goals as goal
+
+pub returns-in_ok-copy-in-Dxr-clause-stands : goal.returns-in_ok-copy-in-Dxr-clause-stands
+returns-in_ok-copy-in-Dxr-clause-stands g c = λ rows is. c.in_ok-copy-in-Dxr.ensures.stands rows (subst (λ e. Stands e rows) c.in-Dxr.is is)
