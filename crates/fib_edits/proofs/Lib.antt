@@ -1,0 +1,4 @@
+pub mod CutLemmas
+pub mod EditLemmas
+pub mod NameLemmas
+pub mod TouchLemmas
