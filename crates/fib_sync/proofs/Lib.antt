@@ -1,0 +1,11 @@
+pub mod AheadLemmas
+pub mod ControlLemmas
+pub mod EntriesLemmas
+pub mod FreshLemmas
+pub mod IndexLemmas
+pub mod LawfulLemmas
+pub mod MatchedLemmas
+pub mod NamingLemmas
+pub mod PictureLemmas
+pub mod RunLemmas
+pub mod WorkLemmas

@@ -1,0 +1,11 @@
+pub mod Control
+pub mod Entries
+pub mod Fresh
+pub mod Lawful
+pub mod Laws
+pub mod Naming
+pub mod Replies
+pub mod Running
+pub mod Standing
+pub mod VersionNames
+pub mod Working

@@ -1,0 +1,191 @@
+use crate::OutOfMemory;
+use crate::next_version::{NextVersion, first_image, make_next};
+use crate::numbering::Numbering;
+use crate::runner::Runner;
+use crate::running::run_to_version;
+use crate::working::Working;
+use engine_set::Image;
+use fib_edits::Touched;
+use nhop_index::Indexes;
+use rib_store::{Plan, Reply, Rib};
+use std::alloc::Global;
+use std::marker::Model;
+use std::sync::Arc;
+
+/// What an advance comes to.
+#[derive(Drop)]
+pub enum Advance<const W: u32> {
+    /// The image of the next version.
+    Next(Arc<Image<W>>),
+    /// The plan has no further version.
+    Finished,
+}
+
+/// The control of an address family: it runs the commands of a plan, and gives the image of each of
+/// the plan's versions in turn.
+///
+/// `K` is 2 to 8, the number of versions that readers may hold at a time, and `LIVE` 1 to 4,095, the
+/// most live targets of a version. A version costs a time that grows with the routes that it changes
+/// and with the number of live targets, and not with the number of routes; but where the module
+/// changes or takes no such change, or memory was wanting before, its engine is built anew.
+#[derive(Drop)]
+pub struct Control<const W: u32, const K: u64, const LIVE: u32> {
+    runner: Runner<W, LIVE>,
+    /// The prefixes touched since the last image.
+    touched: Touched<W>,
+    numbering: Numbering<W, K, LIVE>,
+    /// None where memory was wanting for an image: the next one's engine is built anew.
+    working: Option<Working<W>>,
+    /// The last image, with which the next one shares.
+    image: Arc<Image<W>>,
+    /// Whether the plan's end made its version.
+    ended: bool,
+}
+
+impl<const W: u32, const K: u64, const LIVE: u32> Model for Control<W, K, LIVE> {
+    ghost use Rattle.std.specs.Prelude.{not, is_some};
+    ghost use Rattle.std.specs.Arc.{arc_value};
+    ghost use Rattle.fib_sync.specs.Control.{Controlled};
+
+    ghost Value = { Controlled W };
+
+    ghost use Rattle.fib_sync.specs.Standing.{IsAt, IsByEnd};
+
+    ghost view = { λ c. record { plan = c.runner.plan; commands = c.runner.commands; rib = c.runner.rib; replies = c.runner.replies; image = arc_value c.image; ended = c.ended; interrupted = not (is_some c.working) } };
+
+    ghost invariant = { λ c. IsAt c.runner c.touched c.numbering c.working (arc_value c.image) × IsByEnd LIVE c.runner.plan (arc_value c.image) c.ended };
+}
+
+impl<const W: u32, const K: u64, const LIVE: u32> Control<W, K, LIVE> {
+    ghost use Rattle.std.specs.Prelude.{◌≡◌, ◌≤◌, false, IfOk, OnErr};
+    ghost use Rattle.std.specs.Arc.{arc_value};
+    ghost use Rattle.prefix_width.specs.Limits.{AreBanks, AreTargets};
+    ghost use Rattle.fib_sync.specs.Control.{Advances, IsControl, IsImage};
+    ghost use Rattle.fib_sync.specs.VersionNames.{naming_at};
+
+    /// A control that has run no command, and the image of version 0.
+    pub fn begin(
+        alloc: Global,
+        plan: Arc<Plan<W>>,
+    ) -> Result<(Control<W, K, LIVE>, Arc<Image<W>>), OutOfMemory>
+        requires banks { AreBanks K }
+        requires targets { AreTargets LIVE }
+        ensures plan { IfOk result (λ t. t.0.plan ≡ arc_value plan.entry) }
+        ensures image { IfOk result (λ t. t.0.image ≡ arc_value t.1) }
+        ensures first { IfOk result (λ t. ((arc_value t.1).version ≡ 0) × (t.0.commands ≡ 0) × (t.0.ended ≡ false) × (t.0.interrupted ≡ false)) }
+        ensures lawful { IfOk result (λ t. IsImage K LIVE (arc_value plan.entry) 0 (arc_value t.1)) }
+        ensures control { IfOk result (λ t. IsControl K LIVE t.0) }
+    {
+        let runner = Runner::new(alloc, plan);
+        let numbering = Numbering::begin(alloc)?;
+        let mut working = Working::empty(alloc)?;
+        let engine = working.copy(alloc)?;
+        let image = first_image::<W, K, LIVE>(alloc, engine, &runner)?;
+        let image = Arc::new(alloc, image)?;
+        let kept = Arc::try_clone(&image)?;
+        let control = Control {
+            runner,
+            touched: Touched::new(alloc),
+            numbering,
+            working: Some(working),
+            image: kept,
+            ended: false,
+        };
+        Ok((control, image))
+    }
+
+    /// Runs commands up to and with the one that makes the next version, and gives its image. It is
+    /// finished exactly where all commands are run and the plan has no further version.
+    ///
+    /// Where memory is wanting, it has run some more commands, of which table and replies are, and
+    /// the last image is as before; the next call goes on from there.
+    pub fn advance(&mut self, alloc: Global) -> Result<Advance<W>, OutOfMemory>
+        ensures plan { self.new.plan ≡ self.old.plan }
+        ensures advances { IfOk result (Advances K LIVE self.old self.new) }
+        ensures control { IsControl K LIVE self.new }
+        ensures further { self.old.commands ≤ self.new.commands }
+        ensures err { OnErr result (self.new.image ≡ self.old.image) }
+        ensures ended { OnErr result (self.new.ended ≡ self.old.ended) }
+    {
+        let given = self.image.version();
+        run_to_version(alloc, given, &mut self.runner, &mut self.touched)?;
+        let made = self.runner.made();
+        if made.number == given {
+            return Ok(Advance::Finished);
+        }
+        self.numbering.name_next(alloc, self.runner.rib())?;
+        let NextVersion {
+            working,
+            image,
+            kept,
+        } = make_next(
+            alloc,
+            self.working.take(),
+            &self.runner,
+            &self.touched,
+            &self.numbering,
+            &self.image,
+        )?;
+        self.touched.clear();
+        self.numbering.go_on();
+        self.working = Some(working);
+        self.image = kept;
+        self.ended = made.at_end;
+        Ok(Advance::Next(image))
+    }
+
+    /// The plan.
+    pub fn plan(&self) -> &Arc<Plan<W>>
+        ensures { arc_value result.now ≡ self.now.plan }
+    {
+        self.runner.plan()
+    }
+
+    /// How many commands were run, and what every control knows of them.
+    pub fn commands(&self) -> u32
+        ensures count { result ≡ self.now.commands }
+        ensures control { IsControl K LIVE self.now }
+    {
+        self.runner.commands()
+    }
+
+    /// The replies to the commands run.
+    pub fn replies(&self) -> &[Reply]
+        ensures replies { result.now ≡ self.now.replies }
+        ensures control { IsControl K LIVE self.now }
+    {
+        self.runner.replies()
+    }
+
+    /// The table after the commands run.
+    pub fn rib(&self) -> &Rib<W, LIVE>
+        ensures rib { result.now ≡ self.now.rib }
+        ensures control { IsControl K LIVE self.now }
+    {
+        self.runner.rib()
+    }
+
+    /// The last image.
+    pub fn image(&self) -> &Arc<Image<W>>
+        ensures image { arc_value result.now ≡ self.now.image }
+        ensures control { IsControl K LIVE self.now }
+    {
+        &self.image
+    }
+
+    /// The indexes of the last image's version.
+    pub fn indexes(&self) -> &Indexes<W, K, LIVE>
+        ensures names { result.now.names ≡ naming_at K LIVE self.now.plan self.now.image.version }
+        ensures control { IsControl K LIVE self.now }
+    {
+        &self.numbering.now
+    }
+
+    /// Whether the plan's end made the version of the last image.
+    pub fn ended(&self) -> bool
+        ensures ended { result ≡ self.now.ended }
+        ensures control { IsControl K LIVE self.now }
+    {
+        self.ended
+    }
+}
