@@ -1,0 +1,13 @@
+pub mod ApartLemmas
+pub mod CloseLemmas
+pub mod CountLemmas
+pub mod FreshLemmas
+pub mod HitLemmas
+pub mod IndexLemmas
+pub mod MapLemmas
+pub mod NamedTables
+pub mod NumberLemmas
+pub mod PairLemmas
+pub mod PassLemmas
+pub mod ReadLemmas
+pub mod TotalLemmas
