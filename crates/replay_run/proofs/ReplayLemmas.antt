@@ -14,19 +14,22 @@ use Rattle.prefix_width.proofs.OrderLemmas.{hop_total, hop_exact}
 use Rattle.counted_map.specs.Counts.{Counts, IsCounts, count_of, linked_all}
 use Rattle.counted_map.proofs.CountMapLemmas.{IsCounts-linked, length-linked, linked_at}
 use Rattle.rib_store.specs.declared.command.Command.{Command}
+use Rattle.rib_store.specs.Plan.{Planned}
 use Rattle.rib_store.specs.declared.command.Reply.{Reply}
 use Rattle.rib_store.specs.Table.{Table, table_after}
 use Rattle.rib_store.specs.Answer.{answer}
 use Rattle.plan_cut.specs.PlanCourse.{course_of, version_at, version_before}
+use Rattle.plan_cut.specs.VersionTable.{answer_at, commands_at, commands_of}
 use Rattle.plan_cut.proofs.ListingLemmas.{get-versions-latest}
 use Rattle.route_lang.specs.declared.line.Line.{Line}
 use Rattle.route_lang.specs.declared.line.Line.TheVariants.{Change, Quiet, Get4, Get6}
 use Rattle.route_lang.specs.Fits.{Positions, FitsLine, HasAt, IsScript}
-use Rattle.route_lang.specs.declared.script.TheConstants.{LINES_MAX}
+use Rattle.route_lang.specs.Limits.{lines_limit}
 use Rattle.route_lang.specs.Script.{Reading}
 use Rattle.replay_run.specs.Family.{Follows, FollowsAt, IsNext}
+use Rattle.replay_run.specs.Limits.{targets_max}
 use Rattle.replay_run.specs.Line.{numbered, get_text, packets_text}
-use Rattle.replay_run.specs.Output.{Get, Part, inet_of, inet6_of, answer_at, answered, commands_at, commands_of, given, line_reply, line_text, packets_in, plan_text, replied, serial_output}
+use Rattle.replay_run.specs.Output.{Get, Part, inet_of, inet6_of, answered, given, line_reply, line_text, packets_in, plan_text, replied, serial_output}
 use Rattle.replay_run.specs.Replay.{HasBegun, HasRoom, HasRunLine, IsPartUnderWay, IsUnderWay, in_turn}
 use Rattle.replay_run.specs.declared.family.Family.{Family}
 use Rattle.replay_run.specs.declared.family_replay.FamilyReplay.{FamilyReplay}
@@ -40,24 +43,24 @@ lines_from_place lines i line e =
 -- ---- positions
 
 -- a command that is there stands within the plan
-there : {w : ℕ} (plan : List (Command w)) (pos at : ℕ) (test : Command w → Bool) → pos ≡ at → HasAt plan pos test → (pos ≡ at) × (at < length plan)
-there plan pos at test same h = (same, rw same at (by_command (slice_get plan pos) refl h))
+there : {w : ℕ} (plan : Planned w) (pos at : ℕ) (test : Command w → Bool) → pos ≡ at → HasAt plan pos test → (pos ≡ at) × (at < length plan.commands)
+there plan pos at test same h = (same, rw same at (by_command (slice_get plan.commands pos) refl h))
   where
-    by_command : (o : Option _) → slice_get plan pos ≡ o → MatchOption o ⊥ (λ c. test c ≡ true) → pos < length plan
+    by_command : (o : Option _) → slice_get plan.commands pos ≡ o → MatchOption o ⊥ (λ c. test c ≡ true) → pos < length plan.commands
     by_command None e h = absurd h
-    by_command (Some c) e h = slice_get_within plan pos c e
+    by_command (Some c) e h = slice_get_within plan.commands pos c e
 
 -- the positions of a line are the next ones
 pub next : (script : Reading) (at : Positions) (number : ℕ) (inet inet6 : Option ℕ) → FitsLine script.inet script.inet6 at (Change number inet inet6) ⊎ FitsLine script.inet script.inet6 at (Quiet number inet inet6)
-    → IsNext inet at.inet (length script.inet) × IsNext inet6 at.inet6 (length script.inet6)
+    → IsNext inet at.inet (length script.inet.commands) × IsNext inet6 at.inet6 (length script.inet6.commands)
 next script at number None None (inl h) = absurd h
 next script at number None None (inr h) = absurd h
 next script at number None (Some pos) (inl h) = (tt, there script.inet6 pos at.inet6 _ h.0 h.1)
 next script at number None (Some pos) (inr h) = (tt, there script.inet6 pos at.inet6 _ h.0 h.1)
 next script at number (Some pos) None (inl h) = (there script.inet pos at.inet _ h.0 h.1, tt)
 next script at number (Some pos) None (inr h) = (there script.inet pos at.inet _ h.0 h.1, tt)
-next script at number (Some pos) (Some pos6) (inl h) = ((h.0, rw h.0 at (slice_get_within script.inet pos _ h.2.inet)), (h.1, rw h.1 at (slice_get_within script.inet6 pos6 _ h.2.inet6)))
-next script at number (Some pos) (Some pos6) (inr h) = ((h.0, rw h.0 at (slice_get_within script.inet pos _ h.2.inet)), (h.1, rw h.1 at (slice_get_within script.inet6 pos6 _ h.2.inet6)))
+next script at number (Some pos) (Some pos6) (inl h) = ((h.0, rw h.0 at (slice_get_within script.inet.commands pos _ h.2.inet)), (h.1, rw h.1 at (slice_get_within script.inet6.commands pos6 _ h.2.inet6)))
+next script at number (Some pos) (Some pos6) (inr h) = ((h.0, rw h.0 at (slice_get_within script.inet.commands pos _ h.2.inet)), (h.1, rw h.1 at (slice_get_within script.inet6.commands pos6 _ h.2.inet6)))
 
 -- ---- texts and packets
 
@@ -95,45 +98,45 @@ room_behind packets (Some h) line rest room = record {
 
 -- ---- a family goes on by a line
 
-part_on : {w : ℕ} (part : Part w) (script : Reading) (line : Line) (v : ℕ) (rest : List Line) (before after : FamilyReplay w)
-    → in_turn script (line ∷ rest) ≡ (line, v) ∷ in_turn script rest → IsPartUnderWay part script (line ∷ rest) before
-    → Follows part.plan after.family → after.packets ≡ linked_all hop_cmp before.packets (option_to_list (given part (line, v)))
+part_on : {w live : ℕ} (part : Part w) (script : Reading) (line : Line) (v : ℕ) (rest : List Line) (before after : FamilyReplay w live)
+    → in_turn live script (line ∷ rest) ≡ (line, v) ∷ in_turn live script rest → IsPartUnderWay part script (line ∷ rest) before
+    → Follows part.plan after.family → after.packets ≡ linked_all hop_cmp before.packets (option_to_list (given live part (line, v)))
     → IsPartUnderWay part script rest after
-part_on part script line v rest before after turn h follows packets = record {
+part_on {w} {live} part script line v rest before after turn h follows packets = record {
   follows = follows;
-  packets = counted before.packets after.packets _ (given part (line, v)) (filter_map (given part) (in_turn script rest)) packets
-      (ap (λ lines. linked_all hop_cmp before.packets (filter_map (given part) lines)) (sym turn) ∙ h.packets);
-  room = rw packets (room_behind before.packets (given part (line, v)) line rest h.room);
+  packets = counted before.packets after.packets _ (given live part (line, v)) (filter_map (given live part) (in_turn live script rest)) packets
+      (ap (λ lines. linked_all hop_cmp before.packets (filter_map (given live part) lines)) (sym turn) ∙ h.packets);
+  room = rw packets (room_behind before.packets (given live part (line, v)) line rest h.room);
 }
 
 -- the last version's rows give what a scan of its table gives
-scanned : {w : ℕ} (plan : List (Command w)) (family : Family w) (at addr flow : ℕ) → FollowsAt plan at family → answer w family.rows addr flow ≡ answer_at w plan (version_before plan at) addr flow
-scanned {w} plan family at addr flow h =
-    let listed : commands_at plan (version_before plan at) ≡ (version_at plan at).count = ap commands_of (get-versions-latest (course_of plan) at h.within) in
-    ap (λ (rows : Table). answer w rows addr flow) (h.rows ∙ ap (table_after plan) (sym listed))
+scanned : {w live : ℕ} (plan : Planned w) (family : Family w live) (at addr flow : ℕ) → FollowsAt plan at family → answer w family.rows addr flow ≡ answer_at live plan (version_before live plan at) addr flow
+scanned {w} {live} plan family at addr flow h =
+    let listed : commands_at live plan (version_before live plan at) ≡ (version_at live plan at).count = ap commands_of (get-versions-latest (course_of live plan) at h.within) in
+    ap (λ (rows : Table). answer w rows addr flow) (h.rows ∙ ap (table_after live plan) (sym listed))
 
 -- the line of a get
-line_is : {w : ℕ} (plan : List (Command w)) (family : Family w) (at line addr flow : ℕ) → FollowsAt plan at family
-    → numbered line (get_text w addr family.version (answer w family.rows addr flow)) ≡ answered plan (version_before plan at) line addr flow
-line_is {w} plan family at line addr flow h =
+line_is : {w live : ℕ} (plan : Planned w) (family : Family w live) (at line addr flow : ℕ) → FollowsAt plan at family
+    → numbered line (get_text w addr family.version (answer w family.rows addr flow)) ≡ answered live plan (version_before live plan at) line addr flow
+line_is {w} {live} plan family at line addr flow h =
     ap (λ v. numbered line (get_text w addr v (answer w family.rows addr flow))) h.number
-    ∙ ap (λ o. numbered line (get_text w addr (version_before plan at) o)) (scanned plan family at addr flow h)
+    ∙ ap (λ o. numbered line (get_text w addr (version_before live plan at) o)) (scanned plan family at addr flow h)
 
 -- the family of a get
-part_got : {w : ℕ} (part : Part w) (script : Reading) (line : Line) (addr flow at : ℕ) (rest : List Line) (before after : FamilyReplay w)
-    → in_turn script (line ∷ rest) ≡ (line, version_before part.plan at) ∷ in_turn script rest → part.get_of line ≡ Some (record { addr = addr; flow = flow })
+part_got : {w live : ℕ} (part : Part w) (script : Reading) (line : Line) (addr flow at : ℕ) (rest : List Line) (before after : FamilyReplay w live)
+    → in_turn live script (line ∷ rest) ≡ (line, version_before live part.plan at) ∷ in_turn live script rest → part.get_of line ≡ Some (record { addr = addr; flow = flow })
     → IsPartUnderWay part script (line ∷ rest) before → FollowsAt part.plan at before.family
     → after.family ≡ before.family → after.packets ≡ linked_all hop_cmp before.packets (option_to_list (answer w before.family.rows addr flow))
     → IsPartUnderWay part script rest after
-part_got {w} part script line addr flow at rest before after turn get h follows family packets =
-    part_on part script line (version_before part.plan at) rest before after turn h (subst (Follows part.plan) (sym family) h.follows)
-    (packets ∙ ap (λ o. linked_all hop_cmp before.packets (option_to_list o)) (scanned part.plan before.family at addr flow follows ∙ sym (ap (option_and_then (λ (get : Get). answer_at w part.plan (version_before part.plan at) get.addr get.flow)) get)))
+part_got {w} {live} part script line addr flow at rest before after turn get h follows family packets =
+    part_on part script line (version_before live part.plan at) rest before after turn h (subst (Follows part.plan) (sym family) h.follows)
+    (packets ∙ ap (λ o. linked_all hop_cmp before.packets (option_to_list o)) (scanned part.plan before.family at addr flow follows ∙ sym (ap (option_and_then (λ (get : Get). answer_at live part.plan (version_before live part.plan at) get.addr get.flow)) get)))
 
 -- ---- the replay goes on by a line
 
 pub after_change : (script : Reading) (number : ℕ) (inet inet6 : Option ℕ) (rest : List Line) (before after : Replay) (reply : Option Reply)
     → IsUnderWay script (Change number inet inet6 ∷ rest) before
-    → HasRunLine script.inet inet before.inet after.inet → HasRunLine script.inet6 inet6 before.inet6 after.inet6 → reply ≡ line_reply script inet inet6
+    → HasRunLine script.inet inet before.inet after.inet → HasRunLine script.inet6 inet6 before.inet6 after.inet6 → reply ≡ line_reply targets_max script inet inet6
     → after.out.items ≡ before.out.items ++ replied number reply
     → IsUnderWay script rest after
 after_change script number inet inet6 rest before after reply h run run6 same out =
@@ -142,7 +145,7 @@ after_change script number inet inet6 rest before after reply h run run6 same ou
       inet = part_on (inet_of script) script line 0 rest before.inet after.inet refl h.inet run.follows run.packets;
       inet6 = part_on (inet6_of script) script line 0 rest before.inet6 after.inet6 refl h.inet6 run6.follows run6.packets;
       fits = rw (run.commands, run6.commands) h.fits.1;
-      text = written (line_text script) before.out.items after.out.items _ _ (line, 0) (in_turn script rest) out (ap (replied number) same) h.text;
+      text = written (line_text targets_max script) before.out.items after.out.items _ _ (line, 0) (in_turn targets_max script rest) out (ap (replied number) same) h.text;
     }
 
 pub after_quiet : (script : Reading) (number : ℕ) (inet inet6 : Option ℕ) (rest : List Line) (before after : Replay)
@@ -156,7 +159,7 @@ after_quiet script number inet inet6 rest before after h run run6 out =
       inet = part_on (inet_of script) script line 0 rest before.inet after.inet refl h.inet run.follows run.packets;
       inet6 = part_on (inet6_of script) script line 0 rest before.inet6 after.inet6 refl h.inet6 run6.follows run6.packets;
       fits = rw (run.commands, run6.commands) h.fits.1;
-      text = written (line_text script) before.out.items after.out.items [] _ (line, 0) (in_turn script rest) (out ∙ sym (append-nil before.out.items)) refl h.text;
+      text = written (line_text targets_max script) before.out.items after.out.items [] _ (line, 0) (in_turn targets_max script rest) (out ∙ sym (append-nil before.out.items)) refl h.text;
     }
 
 pub after_get4 : (script : Reading) (number addr flow at : ℕ) (rest : List Line) (before after : Replay)
@@ -170,9 +173,9 @@ after_get4 script number addr flow at rest before after h other family packets o
     let follows : FollowsAt script.inet at before.inet.family = subst (λ n. FollowsAt script.inet n before.inet.family) (sym h.fits.0) h.inet.follows in
     record {
       inet = part_got (inet_of script) script line addr flow at rest before.inet after.inet refl refl h.inet follows family packets;
-      inet6 = part_on (inet6_of script) script line (version_before script.inet at) rest before.inet6 after.inet6 refl h.inet6 (rw other h.inet6.follows) (rw other refl);
+      inet6 = part_on (inet6_of script) script line (version_before targets_max script.inet at) rest before.inet6 after.inet6 refl h.inet6 (rw other h.inet6.follows) (rw other refl);
       fits = rw (family, other) h.fits.1;
-      text = written (line_text script) before.out.items after.out.items _ _ (line, version_before script.inet at) (in_turn script rest) out (line_is script.inet before.inet.family at number addr flow follows) h.text;
+      text = written (line_text targets_max script) before.out.items after.out.items _ _ (line, version_before targets_max script.inet at) (in_turn targets_max script rest) out (line_is script.inet before.inet.family at number addr flow follows) h.text;
     }
 
 pub after_get6 : (script : Reading) (number addr flow at : ℕ) (rest : List Line) (before after : Replay)
@@ -185,10 +188,10 @@ after_get6 script number addr flow at rest before after h other family packets o
     let line = Get6 number addr flow at in
     let follows : FollowsAt script.inet6 at before.inet6.family = subst (λ n. FollowsAt script.inet6 n before.inet6.family) (sym h.fits.0) h.inet6.follows in
     record {
-      inet = part_on (inet_of script) script line (version_before script.inet6 at) rest before.inet after.inet refl h.inet (rw other h.inet.follows) (rw other refl);
+      inet = part_on (inet_of script) script line (version_before targets_max script.inet6 at) rest before.inet after.inet refl h.inet (rw other h.inet.follows) (rw other refl);
       inet6 = part_got (inet6_of script) script line addr flow at rest before.inet6 after.inet6 refl refl h.inet6 follows family packets;
       fits = rw (other, family) h.fits.1;
-      text = written (line_text script) before.out.items after.out.items _ _ (line, version_before script.inet6 at) (in_turn script rest) out (line_is script.inet6 before.inet6.family at number addr flow follows) h.text;
+      text = written (line_text targets_max script) before.out.items after.out.items _ _ (line, version_before targets_max script.inet6 at) (in_turn targets_max script rest) out (line_is script.inet6 before.inet6.family at number addr flow follows) h.text;
     }
 
 -- ---- the beginning and the end
@@ -197,8 +200,8 @@ pub no_counts : IsCounts hop_cmp []
 unfolding IsStrictlySortedBy
 no_counts = record { order = tt; some = All-nil (λ n. 1 ≤ n) }
 
-part_first : {w : ℕ} (part : Part w) (script : Reading) (replay : FamilyReplay w) → length script.lines ≤ LINES_MAX → HasBegun replay → IsPartUnderWay part script script.lines replay
-part_first part script replay few new = record {
+part_first : {w live : ℕ} (part : Part w) (script : Reading) (replay : FamilyReplay w live) → length script.lines ≤ lines_limit → HasBegun replay → IsPartUnderWay part script script.lines replay
+part_first {w} {live} part script replay few new = record {
   follows = new.follows part.plan;
   packets = rw new.packets refl;
   room = rw new.packets (record { counts = no_counts; each = λ q. omega (arith, few); all = omega (arith, few) });
@@ -213,11 +216,11 @@ at_first script replay facts new new6 out = record {
 }
 
 -- what is written behind the last line ends the output
-pub at_last : (script : Reading) (replay : Replay) (plan : List (Command 32)) (plan6 : List (Command 128)) (first second third out : List ℕ) → IsUnderWay script [] replay → plan ≡ script.inet → plan6 ≡ script.inet6
+pub at_last : (script : Reading) (replay : Replay) (plan : Planned 32) (plan6 : Planned 128) (first second third out : List ℕ) → IsUnderWay script [] replay → plan ≡ script.inet → plan6 ≡ script.inet6
     → first ≡ replay.out.items ++ flat_map (packets_text 32) replay.inet.packets → second ≡ first ++ flat_map (packets_text 128) replay.inet6.packets
-    → third ≡ second ++ plan_text plan → out ≡ third ++ plan_text plan6 → out ≡ serial_output script
+    → third ≡ second ++ plan_text targets_max plan → out ≡ third ++ plan_text targets_max plan6 → out ≡ serial_output targets_max script
 at_last script replay plan plan6 first second third out h is is6 a b c d =
-    let text : replay.out.items ≡ flat_map (line_text script) (in_turn script script.lines) = sym (append-nil replay.out.items) ∙ h.text in
-    let packets : replay.inet.packets ≡ packets_in (inet_of script) (in_turn script script.lines) = h.inet.packets in
-    let packets6 : replay.inet6.packets ≡ packets_in (inet6_of script) (in_turn script script.lines) = h.inet6.packets in
+    let text : replay.out.items ≡ flat_map (line_text targets_max script) (in_turn targets_max script script.lines) = sym (append-nil replay.out.items) ∙ h.text in
+    let packets : replay.inet.packets ≡ packets_in targets_max (inet_of script) (in_turn targets_max script script.lines) = h.inet.packets in
+    let packets6 : replay.inet6.packets ≡ packets_in targets_max (inet6_of script) (in_turn targets_max script script.lines) = h.inet6.packets in
     simp (d, c, b, a, text, packets, packets6, is, is6, append_assoc)

@@ -1,7 +1,7 @@
 -- One family of a replay, which has run the first commands of its plan.
-use Rattle.std.specs.Prelude.{◌≡◌, ℕ, ◌*◌, ◌^◌, ◌<◌, ◌≤◌, List, Option, Some, None, length}
+use Rattle.std.specs.Prelude.{◌≡◌, ◌⊎◌, ℕ, ◌+◌, ◌*◌, ◌^◌, ◌<◌, ◌≤◌, List, Option, Some, None, length}
 use Rattle.prefix_width.specs.Choice.{Suits, SettingSuits}
-use Rattle.rib_store.specs.declared.command.Command.{Command}
+use Rattle.rib_store.specs.Plan.{Planned}
 use Rattle.rib_store.specs.declared.command.Reply.{Reply}
 use Rattle.rib_store.specs.declared.command.Reply.TheVariants.{Flushed}
 use Rattle.rib_store.specs.Table.{table_after}
@@ -11,16 +11,16 @@ use Rattle.plan_cut.specs.Standing.{StandsAt}
 use Rattle.plan_cut.specs.PlanCourse.{course_of, setting_after, version_at}
 use Rattle.replay_run.specs.declared.family.Family.{Family}
 
--- the family has run the first n commands of the plan, and holds what they leave: the table, the setting, the cutter,
--- and the last version with its rows
-pub record FollowsAt {w : ℕ} (plan : List (Command w)) (n : ℕ) (family : Family w) : Type 0 where
-  pub within : n ≤ length plan
-  pub table : family.rib ≡ table_after plan n
+-- the family has run the first n commands of the plan, and holds what they leave with its room for live targets: the
+-- table, the setting, the cutter, and the last version with its rows
+pub record FollowsAt {w live : ℕ} (plan : Planned w) (n : ℕ) (family : Family w live) : Type 0 where
+  pub within : n ≤ length plan.commands
+  pub table : family.rib ≡ table_after live plan n
   pub set : family.setting ≡ setting_after plan n
-  pub stands : StandsAt (course_of plan) n family.cutter
-  pub number : family.version ≡ (version_at plan n).number
-  pub chosen : family.kind ≡ (version_at plan n).kind
-  pub rows : family.rows ≡ table_after plan (version_at plan n).count
+  pub stands : StandsAt (course_of live plan) n family.cutter
+  pub number : family.version ≡ (version_at live plan n).number
+  pub chosen : family.kind ≡ (version_at live plan n).kind
+  pub rows : family.rows ≡ table_after live plan (version_at live plan n).count
   pub suits : Suits w family.kind
   pub suits_setting : SettingSuits w family.setting
   pub early : family.cutter.moment ≤ n * 2 ^ 32
@@ -28,14 +28,26 @@ pub record FollowsAt {w : ℕ} (plan : List (Command w)) (n : ℕ) (family : Fam
   pub waiting : family.cutter.pending ≤ n
 
 -- the family has run as many commands of the plan as it counts
-abbrev pub Follows : {w : ℕ} → List (Command w) → Family w → Type 0
+abbrev pub Follows : {w live : ℕ} → Planned w → Family w live → Type 0
 Follows plan family = FollowsAt plan family.commands family
 
 -- the last version is the same, with its module and its rows
-pub record KeepsVersion {w : ℕ} (old new : Family w) : Type 0 where
+pub record KeepsVersion {w live : ℕ} (old new : Family w live) : Type 0 where
   pub number : new.version ≡ old.version
   pub kind : new.kind ≡ old.kind
   pub rows : new.rows ≡ old.rows
+
+-- where memory was wanting behind a command: the family has run it, and keeps the last version in place of a new one
+pub record LosesVersion {w live : ℕ} (plan : Planned w) (old new : Family w live) : Type 0 where
+  pub commands : new.commands ≡ old.commands + 1
+  pub table : new.rib ≡ table_after live plan new.commands
+  pub set : new.setting ≡ setting_after plan new.commands
+  pub stands : StandsAt (course_of live plan) new.commands new.cutter
+  pub kept : KeepsVersion old new
+
+-- where memory was wanting: nothing was done, or the command was run without its version
+abbrev pub WantsMemory : {w live : ℕ} → Planned w → Family w live → Family w live → Type 0
+WantsMemory plan old new = (new ≡ old) ⊎ LosesVersion plan old new
 
 -- what a cut leaves of a version: the new where one is cut, else the old
 abbrev pub kept_by : {A : Type 0} → Cut → A → A → A

@@ -1,4 +1,5 @@
 pub mod Family
+pub mod Limits
 pub mod Line
 pub mod Output
 pub mod Packets

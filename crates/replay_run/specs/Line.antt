@@ -33,6 +33,11 @@ reply_text (Flushed routes) = codes "flushed " ++ decimal routes
 reply_text Nothing = []
 reply_text (Refused refusal) = codes "refused " ++ refusal_text refusal
 
+-- the line of a reply; a command that asks nothing of the table has none
+abbrev pub reply_line : ℕ → Reply → List ℕ
+reply_line line Nothing = []
+reply_line line reply = numbered line (reply_text reply)
+
 -- ---- gets
 
 -- the interface and the MTU, 0 for what is not given

@@ -4,12 +4,13 @@ use Rattle.std.specs.List.{flat_map, filter_map}
 use Rattle.prefix_width.specs.Nexthop.{Hop}
 use Rattle.prefix_width.specs.Order.{hop_cmp}
 use Rattle.counted_map.specs.Counts.{Counts, IsCounts, count_of, linked_all}
-use Rattle.rib_store.specs.declared.command.Command.{Command}
+use Rattle.rib_store.specs.Plan.{Planned}
 use Rattle.route_lang.specs.declared.line.Line.{Line}
-use Rattle.route_lang.specs.declared.script.TheConstants.{LINES_MAX}
+use Rattle.route_lang.specs.Limits.{lines_limit}
 use Rattle.route_lang.specs.Script.{Reading}
 use Rattle.route_lang.specs.Fits.{Positions, Fits, behind}
 use Rattle.replay_run.specs.Family.{Follows, IsNext}
+use Rattle.replay_run.specs.Limits.{targets_max}
 use Rattle.replay_run.specs.Output.{Part, inet_of, inet6_of, line_text, given, packets_in, paired, serial_versions}
 use Rattle.replay_run.specs.declared.family_replay.FamilyReplay.{FamilyReplay}
 use Rattle.replay_run.specs.declared.serial_replay.Replay.{Replay}
@@ -17,36 +18,36 @@ use Rattle.replay_run.specs.declared.serial_replay.Replay.{Replay}
 -- packets are counted, and so many more may be, of any nexthops
 pub record HasRoom (packets : Counts Hop) (more : ℕ) : Type 0 where
   pub counts : IsCounts hop_cmp packets
-  pub each : (h : Hop) → count_of hop_cmp packets h + more ≤ LINES_MAX
-  pub all : length packets + more ≤ LINES_MAX
+  pub each : (h : Hop) → count_of hop_cmp packets h + more ≤ lines_limit
+  pub all : length packets + more ≤ lines_limit
 
 -- lines of a script, each get with the last version that the commands before it have made
-abbrev pub in_turn : Reading → List Line → List (Line × ℕ)
-in_turn script lines = paired lines (serial_versions script lines)
+abbrev pub in_turn : ℕ → Reading → List Line → List (Line × ℕ)
+in_turn live script lines = paired lines (serial_versions live script lines)
 
 -- ---- a family
 
 -- nothing was done: any plan is followed, and no packet was counted
-pub record HasBegun {w : ℕ} (replay : FamilyReplay w) : Type 0 where
-  pub follows : (plan : List (Command w)) → Follows plan replay.family
+pub record HasBegun {w live : ℕ} (replay : FamilyReplay w live) : Type 0 where
+  pub follows : (plan : Planned w) → Follows plan replay.family
   pub commands : replay.family.commands ≡ 0
   pub packets : replay.packets ≡ []
 
 -- the command of a line, if it has one in this plan, may be run
-pub record MayRunLine {w : ℕ} (plan : List (Command w)) (position : Option ℕ) (replay : FamilyReplay w) : Type 0 where
+pub record MayRunLine {w live : ℕ} (plan : Planned w) (position : Option ℕ) (replay : FamilyReplay w live) : Type 0 where
   pub follows : Follows plan replay.family
-  pub next : IsNext position replay.family.commands (length plan)
+  pub next : IsNext position replay.family.commands (length plan.commands)
 
 -- it was run, and no packet was counted
-pub record HasRunLine {w : ℕ} (plan : List (Command w)) (position : Option ℕ) (old new : FamilyReplay w) : Type 0 where
+pub record HasRunLine {w live : ℕ} (plan : Planned w) (position : Option ℕ) (old new : FamilyReplay w live) : Type 0 where
   pub follows : Follows plan new.family
   pub commands : new.family.commands ≡ behind old.family.commands position
   pub packets : new.packets ≡ old.packets
 
 -- these lines are left to a family
-pub record IsPartUnderWay {w : ℕ} (part : Part w) (script : Reading) (rest : List Line) (replay : FamilyReplay w) : Type 0 where
+pub record IsPartUnderWay {w live : ℕ} (part : Part w) (script : Reading) (rest : List Line) (replay : FamilyReplay w live) : Type 0 where
   pub follows : Follows part.plan replay.family
-  pub packets : linked_all hop_cmp replay.packets (filter_map (given part) (in_turn script rest)) ≡ packets_in part (in_turn script script.lines)
+  pub packets : linked_all hop_cmp replay.packets (filter_map (given live part) (in_turn live script rest)) ≡ packets_in live part (in_turn live script script.lines)
   pub room : HasRoom replay.packets (length rest)
 
 -- ---- both families
@@ -60,4 +61,4 @@ pub record IsUnderWay (script : Reading) (rest : List Line) (replay : Replay) : 
   pub inet : IsPartUnderWay (inet_of script) script rest replay.inet
   pub inet6 : IsPartUnderWay (inet6_of script) script rest replay.inet6
   pub fits : Fits script.inet script.inet6 (commands_run replay) rest
-  pub text : replay.out.items ++ flat_map (line_text script) (in_turn script rest) ≡ flat_map (line_text script) (in_turn script script.lines)
+  pub text : replay.out.items ++ flat_map (line_text targets_max script) (in_turn targets_max script rest) ≡ flat_map (line_text targets_max script) (in_turn targets_max script script.lines)

@@ -1,11 +1,11 @@
-ghost use Rattle.std.specs.Prelude.{◌≡◌, ◌+◌, ◌^◌, ◌<◌, List, not, IfOk, OnOk, OnErr, length, Some};
+ghost use Rattle.std.specs.Prelude.{◌≡◌, ◌+◌, ◌^◌, ◌<◌, not, IfOk, OnOk, OnErr, length, Some};
 ghost use Rattle.prefix_width.specs.Choice.{SettingSuits, is_kind};
-ghost use Rattle.rib_store.specs.Plan.{IsWrongModule};
+ghost use Rattle.prefix_width.specs.Limits.{AreTargets};
+ghost use Rattle.rib_store.specs.Limits.{routes_max};
+ghost use Rattle.rib_store.specs.Plan.{IsWrongModule, Planned};
 ghost use Rattle.rib_store.specs.Table.{table_after};
-ghost use Rattle.rib_store.specs.declared.command.Command.{Command};
-ghost use Rattle.rib_store.specs.declared.rib.TheConstants.{ROUTES_MAX};
 ghost use Rattle.plan_cut.specs.PlanCourse.{last_version, set_by};
-ghost use Rattle.replay_run.specs.Family.{Follows, FlushesAtMost, KeepsVersion, kept_by};
+ghost use Rattle.replay_run.specs.Family.{Follows, FlushesAtMost, WantsMemory, kept_by};
 ghost use Rattle.replay_run.specs.Output.{reply_at};
 
 use crate::OutOfMemory;
@@ -15,12 +15,13 @@ use prefix_width::{Kind, Setting};
 use rib_store::{Command, Plan, Reply, Rib, Rows};
 use std::alloc::Global;
 
-/// One family of a replay: its table after the commands so far, and its last version.
+/// One family of a replay: its table after the commands so far, with room for `LIVE` live targets,
+/// and its last version.
 #[derive(Drop)]
-pub(crate) struct Family<const W: u32> {
+pub(crate) struct Family<const W: u32, const LIVE: u32> {
     /// How many commands of the plan were run.
     pub(crate) commands: u32,
-    pub(crate) rib: Rib<W>,
+    pub(crate) rib: Rib<W, LIVE>,
     pub(crate) setting: Setting,
     pub(crate) cutter: Cutter,
     /// The last version: its number, its module, and the rows of its table.
@@ -37,11 +38,12 @@ pub(crate) struct Last {
     pub(crate) kind: Kind,
 }
 
-impl<const W: u32> Family<W> {
+impl<const W: u32, const LIVE: u32> Family<W, LIVE> {
     /// No command was run: the empty table is version 0.
     pub(crate) fn new(alloc: Global) -> Self
+        requires { AreTargets LIVE }
         ensures commands { result.commands ≡ 0 }
-        ensures follows { (plan : List (Command W)) → Follows plan result }
+        ensures follows { (plan : Planned W) → Follows plan result }
     {
         Family {
             commands: 0,
@@ -55,15 +57,15 @@ impl<const W: u32> Family<W> {
     }
 
     /// Runs the next command of the plan, and keeps the version that it makes, if it makes one.
-    /// Where memory is wanting the last version is as before; the command may have been run.
+    /// Where memory is wanting nothing is done, or the command is run and the last version is as before.
     pub(crate) fn run(&mut self, alloc: Global, plan: &Plan<W>) -> Result<Reply, OutOfMemory>
         requires follows { Follows plan.now self.old }
-        requires inside { self.old.commands < length plan.now }
+        requires inside { self.old.commands < length plan.now.commands }
         ensures follows { OnOk result (Follows plan.now self.new) }
         ensures commands { OnOk result (self.new.commands ≡ self.old.commands + 1) }
-        ensures reply { IfOk result (λ reply. Some reply ≡ reply_at plan.now self.old.commands) }
-        ensures flushes { IfOk result (FlushesAtMost ROUTES_MAX) }
-        ensures err { OnErr result (KeepsVersion self.old self.new) }
+        ensures reply { IfOk result (λ reply. Some reply ≡ reply_at LIVE plan.now self.old.commands) }
+        ensures flushes { IfOk result (FlushesAtMost routes_max) }
+        ensures err { OnErr result (WantsMemory plan.now self.old self.new) }
     {
         let command = plan.command(self.commands);
         let _most = self.rib.len();
@@ -103,10 +105,10 @@ impl<const W: u32> Family<W> {
     /// The last version of the plan, all of whose commands were run.
     pub(crate) fn finish(self, plan: &Plan<W>) -> Last
         requires follows { Follows plan.now self }
-        requires all { self.commands ≡ length plan.now }
-        ensures version { result.version ≡ (last_version plan.now).number }
-        ensures routes { result.routes ≡ length (table_after plan.now (last_version plan.now).count) }
-        ensures kind { result.kind ≡ (last_version plan.now).kind }
+        requires all { self.commands ≡ length plan.now.commands }
+        ensures version { result.version ≡ (last_version LIVE plan.now).number }
+        ensures routes { result.routes ≡ length (table_after LIVE plan.now (last_version LIVE plan.now).count) }
+        ensures kind { result.kind ≡ (last_version LIVE plan.now).kind }
     {
         let Family {
             commands: _,

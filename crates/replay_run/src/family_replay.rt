@@ -1,11 +1,12 @@
 ghost use Rattle.std.specs.Prelude.{◌≡◌, ◌++◌, IfOk, IfSome, OnOk, OnErr, length, option_to_list};
 ghost use Rattle.std.specs.List.{flat_map};
 ghost use Rattle.addr_text.specs.Address.{IsFamilyWidth};
+ghost use Rattle.prefix_width.specs.Limits.{AreTargets};
 ghost use Rattle.prefix_width.specs.Order.{hop_cmp};
 ghost use Rattle.counted_map.specs.Counts.{linked_all};
 ghost use Rattle.rib_store.specs.Answer.{answer};
-ghost use Rattle.rib_store.specs.declared.rib.TheConstants.{ROUTES_MAX};
-ghost use Rattle.replay_run.specs.Family.{Follows, FlushesAtMost, KeepsVersion};
+ghost use Rattle.rib_store.specs.Limits.{routes_max};
+ghost use Rattle.replay_run.specs.Family.{Follows, FlushesAtMost, WantsMemory};
 ghost use Rattle.replay_run.specs.Line.{numbered, get_text, packets_text};
 ghost use Rattle.replay_run.specs.Output.{plan_text, reply_of};
 ghost use Rattle.replay_run.specs.Replay.{HasBegun, HasRoom, HasRunLine, MayRunLine};
@@ -20,15 +21,16 @@ use std::alloc::Global;
 
 /// One family of a replay under way: what its commands have left, and the packets of its gets.
 #[derive(Drop)]
-pub(crate) struct FamilyReplay<const W: u32> {
-    pub(crate) family: Family<W>,
+pub(crate) struct FamilyReplay<const W: u32, const LIVE: u32> {
+    pub(crate) family: Family<W, LIVE>,
     /// How many gets each nexthop was given to.
     pub(crate) packets: CountedMap<Nexthop<W>>,
 }
 
-impl<const W: u32> FamilyReplay<W> {
+impl<const W: u32, const LIVE: u32> FamilyReplay<W, LIVE> {
     /// Nothing was done.
     pub(crate) fn new(alloc: Global) -> Self
+        requires { AreTargets LIVE }
         ensures { HasBegun result }
     {
         FamilyReplay {
@@ -38,7 +40,7 @@ impl<const W: u32> FamilyReplay<W> {
     }
 
     /// Runs the command of a line, if it has one in this plan, and gives its reply. Where memory is
-    /// wanting the last version is as before.
+    /// wanting nothing is done, or the command is run and the last version is as before.
     pub(crate) fn run_line(
         &mut self,
         alloc: Global,
@@ -47,9 +49,9 @@ impl<const W: u32> FamilyReplay<W> {
     ) -> Result<Option<Reply>, OutOfMemory>
         requires { MayRunLine plan.now position self.old }
         ensures run { OnOk result (HasRunLine plan.now position self.old self.new) }
-        ensures reply { IfOk result (λ reply. reply ≡ reply_of plan.now position) }
-        ensures flushes { IfOk result (λ reply. IfSome reply (FlushesAtMost ROUTES_MAX)) }
-        ensures err { OnErr result (KeepsVersion self.old.family self.new.family) }
+        ensures reply { IfOk result (λ reply. reply ≡ reply_of LIVE plan.now position) }
+        ensures flushes { IfOk result (λ reply. IfSome reply (FlushesAtMost routes_max)) }
+        ensures err { OnErr result (WantsMemory plan.now self.old.family self.new.family) }
         ensures packets { self.new.packets ≡ self.old.packets }
     {
         if position.is_none() {
@@ -103,8 +105,8 @@ impl<const W: u32> FamilyReplay<W> {
     pub(crate) fn finish(self, plan: &Plan<W>, out: &mut Vec<u8>) -> Result<(), OutOfMemory>
         requires width { IsFamilyWidth W }
         requires follows { Follows plan.now self.family }
-        requires all { self.family.commands ≡ length plan.now }
-        ensures { OnOk result (out.new.items ≡ out.old.items ++ plan_text plan.now) }
+        requires all { self.family.commands ≡ length plan.now.commands }
+        ensures { OnOk result (out.new.items ≡ out.old.items ++ plan_text LIVE plan.now) }
     {
         let last = self.family.finish(plan);
         write_fib::<W>(last.version, last.routes, last.kind, out)

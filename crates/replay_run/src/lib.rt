@@ -4,6 +4,9 @@
 //! version are kept, and a get scans them all.
 #![tactic(auto)]
 
+/// How many live targets a family's table may have: distinct nexthops and groups.
+pub const TARGETS_MAX: u32 = 4_095;
+
 mod family;
 mod family_replay;
 mod gate;

@@ -1,7 +1,7 @@
 //! The texts of the output, each appended to what was written before.
 ghost use Rattle.std.specs.Prelude.{◌≡◌, ◌++◌, ◌⊎◌, OnOk, decimal, codes, option_copied};
 ghost use Rattle.addr_text.specs.Address.{IsFamilyWidth};
-ghost use Rattle.replay_run.specs.Line.{numbered, reply_text, refusal_text, get_text, link_text, nexthop_text, target_text, family_name, module_name, packets_text, version_text, fib_text};
+ghost use Rattle.replay_run.specs.Line.{numbered, reply_line, reply_text, refusal_text, get_text, link_text, nexthop_text, target_text, family_name, module_name, packets_text, version_text, fib_text};
 
 use crate::OutOfMemory;
 use addr_text::write_addr;
@@ -10,8 +10,17 @@ use prefix_width::{Addr, Kind, Nexthop, NhKind};
 use rib_store::{Refusal, Reply};
 use std::alloc::Global;
 
-/// Appends the line of a reply.
+/// Appends the line of a reply, if it has one.
 pub(crate) fn write_reply(line: u32, reply: Reply, out: &mut Vec<u8>) -> Result<(), OutOfMemory>
+    ensures { OnOk result (out.new.items ≡ out.old.items ++ reply_line line reply) }
+{
+    match reply {
+        Reply::Nothing => Ok(()),
+        reply => push_numbered(line, reply, out),
+    }
+}
+
+fn push_numbered(line: u32, reply: Reply, out: &mut Vec<u8>) -> Result<(), OutOfMemory>
     ensures { OnOk result (out.new.items ≡ out.old.items ++ numbered line (reply_text reply)) }
 {
     push_number(u64::from(line), out)?;

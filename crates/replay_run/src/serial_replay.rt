@@ -1,20 +1,21 @@
 ghost use Rattle.std.specs.Prelude.{◌≡◌, ◌++◌, ◌+◌, ◌<◌, IfOk, IfSome, OnOk, [], length, drop};
-ghost use Rattle.rib_store.specs.declared.rib.TheConstants.{ROUTES_MAX};
+ghost use Rattle.rib_store.specs.Limits.{routes_max};
 ghost use Rattle.replay_run.specs.Family.{FlushesAtMost};
+ghost use Rattle.replay_run.specs.Limits.{targets_max};
 ghost use Rattle.replay_run.specs.Output.{serial_output, replied, one_reply, line_reply};
 ghost use Rattle.replay_run.specs.Replay.{IsUnderWay, HasBegun, HasRunLine, MayRunLine};
 
-use crate::OutOfMemory;
 use crate::family_replay::FamilyReplay;
 use crate::output::write_reply;
+use crate::{OutOfMemory, TARGETS_MAX};
 use rib_store::Reply;
 use route_lang::{Line, Script};
 use std::alloc::Global;
 
 /// The output of a script on one thread: each get is answered by a scan of the rows of its family's
-/// last version.
+/// last version. A table has room for [`TARGETS_MAX`] live targets.
 pub fn serial(alloc: Global, script: &Script) -> Result<Vec<u8>, OutOfMemory>
-    ensures { IfOk result (λ text. text.items ≡ serial_output script.now) }
+    ensures { IfOk result (λ text. text.items ≡ serial_output targets_max script.now) }
 {
     let mut replay = Replay::new(alloc);
     for i in 0..script.lines().len() {
@@ -26,8 +27,8 @@ pub fn serial(alloc: Global, script: &Script) -> Result<Vec<u8>, OutOfMemory>
 /// A replay under way.
 #[derive(Drop)]
 struct Replay {
-    inet: FamilyReplay<32>,
-    inet6: FamilyReplay<128>,
+    inet: FamilyReplay<32, TARGETS_MAX>,
+    inet6: FamilyReplay<128, TARGETS_MAX>,
     out: Vec<u8>,
 }
 
@@ -95,7 +96,7 @@ impl Replay {
         requires inet6 { MayRunLine script.now.inet6 inet6 self.old.inet6 }
         ensures inet { OnOk result (HasRunLine script.now.inet inet self.old.inet self.new.inet) }
         ensures inet6 { OnOk result (HasRunLine script.now.inet6 inet6 self.old.inet6 self.new.inet6) }
-        ensures reply { IfOk result (λ reply. reply ≡ line_reply script.now inet inet6) }
+        ensures reply { IfOk result (λ reply. reply ≡ line_reply targets_max script.now inet inet6) }
         ensures packets { self.new.inet.packets ≡ self.old.inet.packets }
         ensures packets6 { self.new.inet6.packets ≡ self.old.inet6.packets }
         ensures out { self.new.out.items ≡ self.old.out.items }
@@ -108,7 +109,7 @@ impl Replay {
     /// The text so far, with what comes behind the lines.
     fn finish(self, alloc: Global, script: &Script) -> Result<Vec<u8>, OutOfMemory>
         requires { IsUnderWay script.now [] self }
-        ensures { IfOk result (λ text. text.items ≡ serial_output script.now) }
+        ensures { IfOk result (λ text. text.items ≡ serial_output targets_max script.now) }
     {
         let Replay {
             inet,
@@ -135,8 +136,8 @@ fn tell(line: u32, reply: Option<Reply>, out: &mut Vec<u8>) -> Result<(), OutOfM
 
 /// The one reply to a line: that of its family or, for a flush of both, the sum of both numbers.
 fn one_reply(reply: Option<Reply>, reply6: Option<Reply>) -> Option<Reply>
-    requires flushes { IfSome reply (FlushesAtMost ROUTES_MAX) }
-    requires flushes6 { IfSome reply6 (FlushesAtMost ROUTES_MAX) }
+    requires flushes { IfSome reply (FlushesAtMost routes_max) }
+    requires flushes6 { IfSome reply6 (FlushesAtMost routes_max) }
     ensures { result ≡ one_reply reply reply6 }
 {
     match (reply, reply6) {

@@ -1,4 +1,7 @@
+use crate::output::{write_fib, write_reply};
 use crate::{check_text, serial, show_text};
+use prefix_width::Kind;
+use rib_store::{Refusal, Reply};
 use route_lang::read_script;
 use std::test::Fail;
 
@@ -41,5 +44,40 @@ fn a_script_is_replayed_checked_and_shown(rt: HostRuntime) -> Result<(), Fail> {
         b"ok 6 lines 5 commands\n".as_slice()
     );
     assert_eq!(rt; show_text(alloc, &script)?.as_slice(), SHOWN.as_bytes());
+    Ok(())
+}
+
+#[test]
+fn replies_and_modules_are_spelled_as_written_here(rt: HostRuntime) -> Result<(), Fail> {
+    for (reply, text) in [
+        (Reply::Added, "7 added\n"),
+        (Reply::Joined, "7 joined\n"),
+        (Reply::Changed, "7 changed\n"),
+        (Reply::Deleted, "7 deleted\n"),
+        (Reply::Flushed(12), "7 flushed 12\n"),
+        (Reply::Nothing, ""),
+        (Reply::Refused(Refusal::Exists), "7 refused exists\n"),
+        (Reply::Refused(Refusal::NotFound), "7 refused not found\n"),
+        (Reply::Refused(Refusal::PathsFull), "7 refused paths full\n"),
+        (Reply::Refused(Refusal::TableFull), "7 refused table full\n"),
+        (
+            Reply::Refused(Refusal::TargetsFull),
+            "7 refused targets full\n",
+        ),
+    ] {
+        let mut out = Vec::new(rt.alloc());
+        write_reply(7, reply, &mut out)?;
+        assert_eq!(rt; out.as_slice(), text.as_bytes());
+    }
+    for (kind, text) in [
+        (Kind::Scan, "fib inet version 1 routes 2 algo scan\n"),
+        (Kind::Range, "fib inet version 1 routes 2 algo range\n"),
+        (Kind::Radix, "fib inet version 1 routes 2 algo radix\n"),
+        (Kind::Dxr, "fib inet version 1 routes 2 algo dxr\n"),
+    ] {
+        let mut out = Vec::new(rt.alloc());
+        write_fib::<32>(1, 2, kind, &mut out)?;
+        assert_eq!(rt; out.as_slice(), text.as_bytes());
+    }
     Ok(())
 }

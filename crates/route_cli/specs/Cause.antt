@@ -5,7 +5,7 @@ use Rattle.outside_io.specs.Faults.{Rose}
 use Rattle.outside_io.specs.Whole.{ReadsAll, ReadsPast, WritesFront}
 use Rattle.route_lang.specs.declared.fault.Reason.{Reason}
 use Rattle.route_lang.specs.declared.fault.Reason.TheVariants as reason
-use Rattle.route_lang.specs.declared.script.TheConstants.{INPUT_MAX}
+use Rattle.route_lang.specs.Limits.{input_limit}
 use Rattle.route_cli.specs.Result.{result_of}
 use Rattle.route_cli.specs.declared.job.Job.{Job}
 use Rattle.route_cli.specs.declared.job.Task.{Task}
@@ -16,7 +16,7 @@ use Rattle.route_cli.specs.declared.status.Status.TheVariants as status
 -- the source was read to its end, and these bytes are within the limit
 pub record WasRead (left rest : Option (List ℕ)) (bytes : List ℕ) : Type 0 where
   pub whole : ReadsAll left rest bytes
-  pub within : length bytes ≤ INPUT_MAX
+  pub within : length bytes ≤ input_limit
 
 -- the source was read to its end, and the text is what the job makes of the bytes
 pub record HasResult (job : Job) (left rest : Option (List ℕ)) (text : List ℕ) : Type 0 where
@@ -47,7 +47,7 @@ is_too_large reason.TooLarge = true
 is_too_large why = false
 
 abbrev pub RefusedBy : Bool → Job → Option (List ℕ) → Option (List ℕ) → ℕ → Reason → Type 0
-RefusedBy true job left rest line reason = (line ≡ 0) × ReadsPast INPUT_MAX left rest
+RefusedBy true job left rest line reason = (line ≡ 0) × ReadsPast input_limit left rest
 RefusedBy false job left rest line reason = RefusedAt job left rest line reason
 
 -- a refused script: line 0 where the bytes are too many, else the line and the reason of the bytes
@@ -58,7 +58,7 @@ Refuses job left rest line reason = RefusedBy (is_too_large reason) job left res
 -- don't rise, give Ok or want of memory.
 abbrev pub IsComplete : Job → Option (List ℕ) → ℕ → ℕ → ℕ → ℕ → Status → Type 0
 IsComplete job left read_before read_now write_before write_now result =
-    (bytes text : List ℕ) → left ≡ Some bytes → length bytes ≤ INPUT_MAX → result_of job bytes ≡ Ok text
+    (bytes text : List ℕ) → left ≡ Some bytes → length bytes ≤ input_limit → result_of job bytes ≡ Ok text
     → ¬ (Rose read_before read_now) → ¬ (Rose write_before write_now)
     → (result ≡ status.Ok) ⊎ (result ≡ status.OutOfMemory)
 

@@ -6,6 +6,7 @@ use Rattle.route_lang.specs.declared.fault.ScriptError.TheVariants as script_err
 use Rattle.route_lang.specs.Script.{Reading, script_of}
 use Rattle.route_lang.specs.Spelling.{spelled}
 use Rattle.route_lang.specs.Text.{lines_of}
+use Rattle.replay_run.specs.Limits.{targets_max}
 use Rattle.replay_run.specs.Output.{serial_output}
 use Rattle.replay_run.specs.Text.{checked_text}
 use Rattle.route_cli.specs.declared.job.Job.{Job}
@@ -13,7 +14,7 @@ use Rattle.route_cli.specs.declared.job.Job.TheVariants.{Replay, Check, Show}
 
 -- what a job makes of a script whose text has so many lines
 abbrev pub text_of : Job → ℕ → Reading → List ℕ
-text_of Replay lines script = serial_output script
+text_of Replay lines script = serial_output targets_max script
 text_of Check lines script = checked_text script lines
 text_of Show lines script = spelled script
 

@@ -18,6 +18,8 @@ use std::{env, io};
 pub use top::{plain, run};
 
 #[cfg(test)]
+mod row_tests;
+#[cfg(test)]
 mod tests;
 #[cfg(test)]
 mod version_tests;

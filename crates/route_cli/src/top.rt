@@ -1,5 +1,7 @@
 ghost use Rattle.std.specs.Prelude.{◌≡◌, ◌≢◌, ◌≤◌, IfOk, length, map, string_bytes};
 ghost use Rattle.outside_io.specs.Faults.{Rose};
+ghost use Rattle.outside_io.specs.Whole.{ReadsWithin};
+ghost use Rattle.route_lang.specs.Limits.{input_limit};
 ghost use Rattle.route_cli.specs.Words.{task_of};
 ghost use Rattle.route_cli.specs.Result.{result_of, GivesResultBy};
 ghost use Rattle.route_cli.specs.Cause.{Answered, Interrupted, Refuses, IsComplete, OfJob, RefusesTask, IsTaskComplete};
@@ -31,9 +33,10 @@ pub fn run<R: AllocGlobal, S: Source, K: Sink, G: Gate + Sync>(
     // The whole result of the bytes that were read.
     ensures ok { result ≡ Status.Ok → OfJob (task_of (map string_bytes words.now)) (λ job. Answered job (S.left source.old) (S.left source.new) (K.written sink.old) (K.written sink.new)) }
 
-    // When each fault comes.
+    // When each fault comes. Too many bytes give one fault, and no other answer.
     ensures read { result ≡ Status.ReadFault → Rose (S.faults source.old) (S.faults source.new) }
     ensures refused { (line : _) (reason : _) → result ≡ Status.ScriptRefused line reason → RefusesTask (task_of (map string_bytes words.now)) (S.left source.old) (S.left source.new) line reason }
+    ensures within { result ≢ Status.ScriptRefused 0 Reason.TooLarge → ReadsWithin input_limit (S.left source.old) (S.left source.new) }
     ensures write { result ≡ Status.WriteFault → Rose (K.faults sink.old) (K.faults sink.new) }
     ensures interrupted { result ≡ Status.WriteFault → OfJob (task_of (map string_bytes words.now)) (λ job. Interrupted job (S.left source.old) (S.left source.new) (K.written sink.old) (K.written sink.new)) }
 
@@ -75,9 +78,10 @@ pub fn plain<S: Source, K: Sink>(alloc: Global, job: Job, source: &mut S, sink: 
     // The whole result of the bytes that were read.
     ensures ok { result ≡ Status.Ok → Answered job (S.left source.old) (S.left source.new) (K.written sink.old) (K.written sink.new) }
 
-    // When each fault comes.
+    // When each fault comes. Too many bytes give one fault, and no other answer.
     ensures read { result ≡ Status.ReadFault → Rose (S.faults source.old) (S.faults source.new) }
     ensures refused { (line : _) (reason : _) → result ≡ Status.ScriptRefused line reason → Refuses job (S.left source.old) (S.left source.new) line reason }
+    ensures within { result ≢ Status.ScriptRefused 0 Reason.TooLarge → ReadsWithin input_limit (S.left source.old) (S.left source.new) }
     ensures write { result ≡ Status.WriteFault → Rose (K.faults sink.old) (K.faults sink.new) }
     ensures interrupted { result ≡ Status.WriteFault → Interrupted job (S.left source.old) (S.left source.new) (K.written sink.old) (K.written sink.new) }
 
@@ -103,6 +107,7 @@ fn read_and_write<S: Source, K: Sink>(
     ensures ok { result ≡ Status.Ok → Answered job (S.left source.old) (S.left source.new) (K.written sink.old) (K.written sink.new) }
     ensures read { result ≡ Status.ReadFault → Rose (S.faults source.old) (S.faults source.new) }
     ensures refused { (line : _) (reason : _) → result ≡ Status.ScriptRefused line reason → Refuses job (S.left source.old) (S.left source.new) line reason }
+    ensures within { result ≢ Status.ScriptRefused 0 Reason.TooLarge → ReadsWithin input_limit (S.left source.old) (S.left source.new) }
     ensures write { result ≡ Status.WriteFault → Rose (K.faults sink.old) (K.faults sink.new) }
     ensures interrupted { result ≡ Status.WriteFault → Interrupted job (S.left source.old) (S.left source.new) (K.written sink.old) (K.written sink.new) }
     ensures untouched { result ≢ Status.Ok → result ≢ Status.WriteFault → sink.new ≡ sink.old }
@@ -134,7 +139,7 @@ fn read_and_write<S: Source, K: Sink>(
 
 /// What the job makes of the bytes.
 fn result_text(alloc: Global, job: Job, bytes: &[u8]) -> Result<Vec<u8>, ScriptError>
-    requires { length bytes.now ≤ INPUT_MAX }
+    requires { length bytes.now ≤ input_limit }
     ensures { GivesResultBy (λ text. text.items) result (result_of job bytes.now) }
 {
     let script = read_script(alloc, bytes)?;

@@ -80,11 +80,11 @@ fib inet6 version 0 routes 0 algo range
     Case {
         series: Series::Gateways,
         first: 0,
-        count: 2_048,
+        count: 4_096,
         behind: "",
-        end: "2047 added
-2048 refused targets full
-fib inet version 33 routes 2047 algo dxr
+        end: "4095 added
+4096 refused targets full
+fib inet version 41 routes 4095 algo dxr
 fib inet6 version 0 routes 0 algo range
 ",
     },

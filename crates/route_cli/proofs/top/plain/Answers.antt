@@ -3,7 +3,7 @@ use Rattle.std.proofs.Common.{◌≡◌, ◌≢◌, ℕ, ◌≤◌, ◌++◌, Bo
 use Rattle.outside_io.specs.Faults.{Rose}
 use Rattle.outside_io.specs.Whole.{ReadsAll, ReadsPast}
 use Rattle.route_lang.specs.declared.fault.Reason.{Reason}
-use Rattle.route_lang.specs.declared.script.TheConstants.{INPUT_MAX}
+use Rattle.route_lang.specs.Limits.{input_limit}
 use Rattle.route_cli.specs.Result.{result_of}
 use Rattle.route_cli.specs.Cause.{Refuses, RefusedBy, is_too_large, IsComplete}
 use Rattle.route_cli.specs.declared.job.Job.{Job}
@@ -16,11 +16,11 @@ all_read : (bytes xs : List ℕ) (rest : Option (List ℕ)) → ReadsAll (Some b
 all_read bytes xs None h = absurd h.0
 all_read bytes xs (Some ys) h = h.0 ∙ ap (λ l. xs ++ l) h.1 ∙ append-nil xs
 
-not_past : (bytes : List ℕ) (rest : Option (List ℕ)) → length bytes ≤ INPUT_MAX → ReadsPast INPUT_MAX (Some bytes) rest → ⊥
+not_past : (bytes : List ℕ) (rest : Option (List ℕ)) → length bytes ≤ input_limit → ReadsPast input_limit (Some bytes) rest → ⊥
 not_past bytes None few h = h.2
 not_past bytes (Some ys) few h = omega (arith, ap length h.2, length-append h.0 ys, h.1)
 
-not_refused : (job : Job) (bytes text : List ℕ) (rest : Option (List ℕ)) (line : ℕ) (reason : Reason) → length bytes ≤ INPUT_MAX → result_of job bytes ≡ Ok text → Refuses job (Some bytes) rest line reason → ⊥
+not_refused : (job : Job) (bytes text : List ℕ) (rest : Option (List ℕ)) (line : ℕ) (reason : Reason) → length bytes ≤ input_limit → result_of job bytes ≡ Ok text → Refuses job (Some bytes) rest line reason → ⊥
 not_refused job bytes text rest line reason few result h = by_test (is_too_large reason) h
   where
     by_test : (large : Bool) → RefusedBy large job (Some bytes) rest line reason → ⊥
