@@ -1,16 +1,16 @@
 -- A runner goes on from the version that was given last.
-use Rattle.std.proofs.Common.{◌≡◌, ◌∙◌, ◌⊎◌, ℕ, ◌+◌, ◌<◌, ◌≤◌, false, true, Some, Ok, Err, [], ◌∷◌, List, length, inl, inr, sym, ap, subst, arith}
+use Rattle.std.proofs.Common.{◌≡◌, ◌∙◌, ℕ, ◌+◌, ◌<◌, ◌≤◌, Some, Ok, Err, [], List, inl, inr, sym, ap, subst, arith}
 use Rattle.std.specs.Prelude.{OnOk, OnErr, Result, slice_get}
 use Rattle.prefix_width.specs.Prefix.{Block}
 use Rattle.rib_store.specs.declared.command.Command.{Command}
 use Rattle.rib_store.specs.Plan.{Planned}
-use Rattle.rib_store.specs.Table.{Table, table_after}
+use Rattle.rib_store.specs.Table.{table_after}
 use Rattle.plan_cut.specs.VersionTable.{table_at}
 use Rattle.plan_cut.specs.Versions.{Version}
 use Rattle.fib_edits.specs.Touching.{Gains, SameBut, touched_by}
 use Rattle.fib_edits.proofs.TouchLemmas.{touched_more, touched_next}
 use Rattle.fib_sync.specs.Running.{Ran, IsRun, IsMade, Ends, GoesOn}
-use Rattle.fib_sync.specs.Standing.{IsAhead, IsReady}
+use Rattle.fib_sync.specs.Standing.{IsAhead}
 
 -- more prefixes do no harm
 pub ahead_more : {w : ℕ} (most v : ℕ) (r : Ran w) (t t' : List Block) → IsAhead most v r t → Gains t [] t' → IsAhead most v r t'

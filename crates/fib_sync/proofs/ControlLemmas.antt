@@ -1,11 +1,9 @@
 -- What the parts of a control come to at its next version.
-use Rattle.std.proofs.Common.{◌≡◌, ◌∙◌, ◌⊎◌, ℕ, zero, suc, ◌+◌, ◌*◌, ◌<◌, ◌≤◌, Bool, false, true, not, List, [], ◌∷◌, Option, Some, None, length, inl, inr, refl, sym, ap, subst, arith, add-one}
-use Rattle.std.specs.Prelude.{All, is_some, slice_get}
+use Rattle.std.proofs.Common.{◌≡◌, ◌∙◌, ℕ, ◌+◌, ◌<◌, ◌≤◌, Bool, false, true, not, List, [], Option, Some, None, length, inl, inr, refl, sym, ap, subst, arith, add-one}
+use Rattle.std.specs.Prelude.{is_some, slice_get}
 use Rattle.std.specs.Arc.{arc_value}
 use Rattle.prefix_width.specs.Prefix.{Block}
-use Rattle.prefix_width.specs.declared.module.Kind.{Kind}
 use Rattle.prefix_width.specs.declared.module.Kind.TheVariants.{Range}
-use Rattle.module_trait.specs.Edit.{IndexChange}
 use Rattle.nhop_index.specs.Book.{Naming}
 use Rattle.nhop_index.specs.Indexes.{by_index, named, target_at}
 use Rattle.nhgrp_slots.specs.Target.{target_cmp}
@@ -18,7 +16,7 @@ use Rattle.rib_store.specs.Table.{Table, table_after}
 use Rattle.plan_cut.specs.Course.{Course}
 use Rattle.plan_cut.specs.PlanCourse.{course_of, last_version, version_at, version_before, versions_of}
 use Rattle.plan_cut.specs.VersionTable.{commands_of, table_at}
-use Rattle.plan_cut.specs.Versions.{Version, final, latest}
+use Rattle.plan_cut.specs.Versions.{Version, latest}
 use Rattle.plan_cut.proofs.ListingLemmas.{get-versions-final, get-versions-latest, latest-zero, length-versions}
 use Rattle.engine_set.specs.declared.engine.Engine.{Engine}
 use Rattle.engine_set.specs.declared.entry.Entry.{Entry}
@@ -40,7 +38,7 @@ use Rattle.fib_sync.specs.Standing.{IsAhead, IsAt, IsByEnd, IsNextVersion, IsRea
 use Rattle.fib_sync.specs.VersionNames.{fresh_at, names_at, naming_at, pair_of}
 use Rattle.fib_sync.specs.Working.{CameBy, IsCopy, MayMove, WorksAt}
 use Rattle.fib_sync.proofs.NamingLemmas.{first_names, first_table, indexed_at, keeps_at, named_rows_at}
-use Rattle.fib_sync.proofs.WorkLemmas.{others_left, others_right, same_on}
+use Rattle.fib_sync.proofs.WorkLemmas.{others_left, others_right}
 
 -- ---- the version that is due
 module _ {w : ℕ} (most : ℕ) (r : Ran w) (run : IsRun most r) where

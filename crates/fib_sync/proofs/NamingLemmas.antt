@@ -1,8 +1,7 @@
 -- What the indexes of a plan's versions are: each of the live targets of the version has one, and keeps it.
-use Rattle.std.proofs.Common.{◌≡◌, ℕ, zero, suc, ◌+◌, ◌≤◌, Bool, true, not, List, [], ◌∷◌, Option, Some, None, map, refl, sym, ap, ◌∙◌, subst, arith, add-one, inl, inr, ◌⊎◌}
+use Rattle.std.proofs.Common.{◌≡◌, ℕ, zero, suc, ◌+◌, ◌≤◌, Bool, true, not, List, [], ◌∷◌, Option, Some, None, refl, sym, ap, ◌∙◌, subst, arith, add-one, inl, inr}
 use Rattle.std.specs.Prelude.{All, Contains, IsSome, slice_get}
 use Rattle.std.specs.Cmp.{eq_by_cmp_equiv}
-use Rattle.std.specs.List.{AllZip}
 use Rattle.std.specs.List.Sorted.{IsStrictlySortedBy}
 use Rattle.std.specs.Map.{keys_of, values_of}
 use Rattle.std.specs.Option.{is_some, unwrap_or}
@@ -10,10 +9,8 @@ use Rattle.std.proofs.lemmas.Bool.{false≢true}
 use Rattle.std.proofs.lemmas.List.Elements.{All-head, All-tail, All-nil}
 use Rattle.std.proofs.lemmas.Map.Views.{IsSome-lookup_from_Contains}
 use Rattle.std.proofs.lemmas.Option.{slice_get_within, get_or_from_slice_get}
-use Rattle.prefix_width.specs.Prefix.{Block}
 use Rattle.prefix_width.specs.Nexthop.{Hop}
-use Rattle.prefix_width.specs.Limits.{AreBanks}
-use Rattle.nhgrp_slots.specs.PathList.{PathList, hops}
+use Rattle.nhgrp_slots.specs.PathList.{hops}
 use Rattle.nhgrp_slots.specs.Target.{target_cmp}
 use Rattle.nhgrp_slots.specs.declared.target.Target.{Target}
 use Rattle.nhgrp_slots.specs.declared.target.Target.TheVariants.{One, Many}
@@ -41,7 +38,7 @@ use Rattle.fib_edits.proofs.NameLemmas.{are_named, keeps_named, positive_named, 
 use Rattle.fib_sync.specs.Entries.{IsClosed, KeepIndexes}
 use Rattle.fib_sync.specs.Lawful.{AreIndexed}
 use Rattle.fib_sync.specs.VersionNames.{lives_to, names_at, naming_at}
-use Rattle.fib_sync.proofs.IndexLemmas.{at_named, kept_index, named_at, only_index, some_index}
+use Rattle.fib_sync.proofs.IndexLemmas.{at_named, kept_index, named_at, only_index}
 
 -- ---- a list of targets with their indexes
 at_place : {X : Type 0} (P : X → Type 0) (xs : List X) (k : ℕ) (x : X) → All P xs → slice_get xs k ≡ Some x → P x

@@ -1,6 +1,6 @@
 -- What is lawful can be made: the condition on an image's parts.
 use Rattle.std.proofs.Common.{◌≡◌, ℕ, List, [], ◌∷◌, Option, Some, None, length, map, refl, sym, ◌∙◌, subst, arith, get_or}
-use Rattle.std.specs.Prelude.{All, IsSome, slice_get}
+use Rattle.std.specs.Prelude.{All, IsSome}
 use Rattle.std.specs.List.Sorted.{IsStrictlyIncreasing}
 use Rattle.std.specs.Map.{values_of}
 use Rattle.std.proofs.lemmas.List.Elements.{All-nil, All-cons}

@@ -1,5 +1,5 @@
 -- A runner goes on by a command of its plan, and asks the plan's end.
-use Rattle.std.proofs.Common.{◌≡◌, ◌∙◌, ◌⊎◌, ℕ, suc, ◌+◌, ◌*◌, ◌^◌, ◌<◌, ◌≤◌, Bool, true, false, List, [], ◌∷◌, ◌++◌, Some, length, inl, inr, refl, sym, ap, subst, arith, add-one}
+use Rattle.std.proofs.Common.{◌≡◌, ◌∙◌, ℕ, suc, ◌+◌, ◌^◌, ◌<◌, ◌≤◌, Bool, true, false, List, [], ◌∷◌, ◌++◌, Some, length, inl, inr, refl, sym, ap, subst, arith, add-one}
 use Rattle.std.specs.Prelude.{not, option_map, option_to_list}
 use Rattle.std.specs.List.{slice_get}
 use Rattle.prefix_width.specs.declared.module.Kind.{Kind}

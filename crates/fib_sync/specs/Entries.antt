@@ -1,5 +1,5 @@
 -- What the indexes of a version have to be, that its entries can be made of them and of those before.
-use Rattle.std.specs.Prelude.{◌≡◌, ℕ, List, Option, Some, slice_get}
+use Rattle.std.specs.Prelude.{◌≡◌, ℕ, List, Some, slice_get}
 use Rattle.std.specs.BTreeMap.{is_at}
 use Rattle.std.specs.List.{AllZip}
 use Rattle.std.specs.Map.{lookup}

@@ -1,5 +1,5 @@
 -- The indexes of a plan's versions, where there are K banks and a table has room for so many live targets.
-use Rattle.std.specs.Prelude.{ℕ, zero, suc, ◌==◌, ◌&&◌, Bool, not, List, [], ◌∷◌, filter, Option, Some, None, option_map}
+use Rattle.std.specs.Prelude.{ℕ, zero, suc, ◌==◌, ◌&&◌, Bool, not, List, [], ◌∷◌, filter, Option, None, option_map}
 use Rattle.std.specs.List.{filter_map, list_any}
 use Rattle.nhgrp_slots.specs.Target.{target_cmp}
 use Rattle.nhgrp_slots.specs.declared.target.Target.{Target}

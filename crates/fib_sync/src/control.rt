@@ -1,11 +1,6 @@
 use crate::OutOfMemory;
-use crate::next_version::{NextVersion, first_image, make_next};
-use crate::numbering::Numbering;
-use crate::runner::Runner;
-use crate::running::run_to_version;
-use crate::working::Working;
+use crate::state::State;
 use engine_set::Image;
-use fib_edits::Touched;
 use nhop_index::Indexes;
 use rib_store::{Plan, Reply, Rib};
 use std::alloc::Global;
@@ -30,30 +25,15 @@ pub enum Advance<const W: u32> {
 /// changes or takes no such change, or memory was wanting before, its engine is built anew.
 #[derive(Drop)]
 pub struct Control<const W: u32, const K: u64, const LIVE: u32> {
-    runner: Runner<W, LIVE>,
-    /// The prefixes touched since the last image.
-    touched: Touched<W>,
-    numbering: Numbering<W, K, LIVE>,
-    /// None where memory was wanting for an image: the next one's engine is built anew.
-    working: Option<Working<W>>,
-    /// The last image, with which the next one shares.
-    image: Arc<Image<W>>,
-    /// Whether the plan's end made its version.
-    ended: bool,
+    state: Box<State<W, K, LIVE>>,
 }
 
 impl<const W: u32, const K: u64, const LIVE: u32> Model for Control<W, K, LIVE> {
-    ghost use Rattle.std.specs.Prelude.{not, is_some};
-    ghost use Rattle.std.specs.Arc.{arc_value};
     ghost use Rattle.fib_sync.specs.Control.{Controlled};
 
     ghost Value = { Controlled W };
 
-    ghost use Rattle.fib_sync.specs.Standing.{IsAt, IsByEnd};
-
-    ghost view = { λ c. record { plan = c.runner.plan; commands = c.runner.commands; rib = c.runner.rib; replies = c.runner.replies; image = arc_value c.image; ended = c.ended; interrupted = not (is_some c.working) } };
-
-    ghost invariant = { λ c. IsAt c.runner c.touched c.numbering c.working (arc_value c.image) × IsByEnd LIVE c.runner.plan (arc_value c.image) c.ended };
+    ghost view = { λ c. c.state.value };
 }
 
 impl<const W: u32, const K: u64, const LIVE: u32> Control<W, K, LIVE> {
@@ -76,22 +56,9 @@ impl<const W: u32, const K: u64, const LIVE: u32> Control<W, K, LIVE> {
         ensures lawful { IfOk result (λ t. IsImage K LIVE (arc_value plan.entry) 0 (arc_value t.1)) }
         ensures control { IfOk result (λ t. IsControl K LIVE t.0) }
     {
-        let runner = Runner::new(alloc, plan);
-        let numbering = Numbering::begin(alloc)?;
-        let mut working = Working::empty(alloc)?;
-        let engine = working.copy(alloc)?;
-        let image = first_image::<W, K, LIVE>(alloc, engine, &runner)?;
-        let image = Arc::new(alloc, image)?;
-        let kept = Arc::try_clone(&image)?;
-        let control = Control {
-            runner,
-            touched: Touched::new(alloc),
-            numbering,
-            working: Some(working),
-            image: kept,
-            ended: false,
-        };
-        Ok((control, image))
+        let (state, image) = State::begin(alloc, plan)?;
+        let state = Box::new(alloc, state)?;
+        Ok((Control { state }, image))
     }
 
     /// Runs commands up to and with the one that makes the next version, and gives its image. It is
@@ -107,38 +74,14 @@ impl<const W: u32, const K: u64, const LIVE: u32> Control<W, K, LIVE> {
         ensures err { OnErr result (self.new.image ≡ self.old.image) }
         ensures ended { OnErr result (self.new.ended ≡ self.old.ended) }
     {
-        let given = self.image.version();
-        run_to_version(alloc, given, &mut self.runner, &mut self.touched)?;
-        let made = self.runner.made();
-        if made.number == given {
-            return Ok(Advance::Finished);
-        }
-        self.numbering.name_next(alloc, self.runner.rib())?;
-        let NextVersion {
-            working,
-            image,
-            kept,
-        } = make_next(
-            alloc,
-            self.working.take(),
-            &self.runner,
-            &self.touched,
-            &self.numbering,
-            &self.image,
-        )?;
-        self.touched.clear();
-        self.numbering.go_on();
-        self.working = Some(working);
-        self.image = kept;
-        self.ended = made.at_end;
-        Ok(Advance::Next(image))
+        self.state.advance(alloc)
     }
 
     /// The plan.
     pub fn plan(&self) -> &Arc<Plan<W>>
         ensures { arc_value result.now ≡ self.now.plan }
     {
-        self.runner.plan()
+        self.state.runner.plan()
     }
 
     /// How many commands were run, and what every control knows of them.
@@ -146,7 +89,7 @@ impl<const W: u32, const K: u64, const LIVE: u32> Control<W, K, LIVE> {
         ensures count { result ≡ self.now.commands }
         ensures control { IsControl K LIVE self.now }
     {
-        self.runner.commands()
+        self.state.runner.commands()
     }
 
     /// The replies to the commands run.
@@ -154,7 +97,7 @@ impl<const W: u32, const K: u64, const LIVE: u32> Control<W, K, LIVE> {
         ensures replies { result.now ≡ self.now.replies }
         ensures control { IsControl K LIVE self.now }
     {
-        self.runner.replies()
+        self.state.runner.replies()
     }
 
     /// The table after the commands run.
@@ -162,7 +105,7 @@ impl<const W: u32, const K: u64, const LIVE: u32> Control<W, K, LIVE> {
         ensures rib { result.now ≡ self.now.rib }
         ensures control { IsControl K LIVE self.now }
     {
-        self.runner.rib()
+        self.state.runner.rib()
     }
 
     /// The last image.
@@ -170,7 +113,7 @@ impl<const W: u32, const K: u64, const LIVE: u32> Control<W, K, LIVE> {
         ensures image { arc_value result.now ≡ self.now.image }
         ensures control { IsControl K LIVE self.now }
     {
-        &self.image
+        &self.state.image
     }
 
     /// The indexes of the last image's version.
@@ -178,7 +121,7 @@ impl<const W: u32, const K: u64, const LIVE: u32> Control<W, K, LIVE> {
         ensures names { result.now.names ≡ naming_at K LIVE self.now.plan self.now.image.version }
         ensures control { IsControl K LIVE self.now }
     {
-        &self.numbering.now
+        &self.state.numbering.now
     }
 
     /// Whether the plan's end made the version of the last image.
@@ -186,6 +129,6 @@ impl<const W: u32, const K: u64, const LIVE: u32> Control<W, K, LIVE> {
         ensures ended { result ≡ self.now.ended }
         ensures control { IsControl K LIVE self.now }
     {
-        self.ended
+        self.state.ended
     }
 }

@@ -19,6 +19,7 @@ mod numbering;
 mod read;
 mod runner;
 mod running;
+mod state;
 mod working;
 
 pub use control::{Advance, Control};
@@ -28,3 +29,6 @@ pub use laws::{law_compiled_slots_are_lawful, law_lawful_images_answer};
 pub use making::make_lawful;
 pub use read::lookup;
 pub use std::alloc::AllocError as OutOfMemory;
+
+#[cfg(test)]
+mod tests;

@@ -1,7 +1,5 @@
-use Rattle.std.proofs.Common.{◌≡◌, ◌∙◌, Some, ℕ, List, sym, subst, ap}
-use Rattle.nhgrp_slots.specs.declared.target.Target.TheVariants.{Many}
+use Rattle.std.proofs.Common.{◌≡◌, ◌∙◌, ℕ, List, sym, subst, ap}
 use Rattle.nhgrp_slots.specs.Slots.{slots_of}
-use Rattle.engine_set.specs.declared.entry.Entry.TheVariants.{Group}
 use Rattle.fib_sync.specs.Entries.{names_in}
 use Rattle.fib_sync.specs.Lawful.{AreSlots}
 use Rattle.fib_sync.proofs.EntriesLemmas.{if_ok, slots_before, slots_kept}

@@ -1,4 +1,4 @@
-use Rattle.std.proofs.Common.{◌≡◌, ◌≤◌, length, arith}
+use Rattle.std.proofs.Common.{◌≤◌, length, arith}
 use Rattle.nhop_index.specs.Indexes.{by_index}
 use Rattle.fib_sync.specs.Fresh.{new_pair}
 use Rattle.fib_sync.proofs.FreshLemmas.{all_pairs, pair_more}

@@ -1,5 +1,4 @@
 use Rattle.std.proofs.Common.{◌≡◌, ◌∙◌, Some, None, cond, sym, ap}
-use Rattle.nhgrp_slots.specs.declared.target.Target.TheVariants.{One}
 use Rattle.rib_store.specs.Plan.{number_of}
 use Rattle.fib_sync.specs.Fresh.{new_pair}
 use Rattle.fib_sync.proofs.FreshLemmas.{new_pair_is}

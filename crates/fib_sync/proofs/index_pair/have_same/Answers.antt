@@ -1,4 +1,4 @@
-use Rattle.std.proofs.Common.{◌≡◌, ◌<◌, ℕ, length, arith}
+use Rattle.std.proofs.Common.{◌≡◌, length, arith}
 use Rattle.nhop_index.specs.Indexes.{by_index}
 use Rattle.fib_sync.proofs.EntriesLemmas.{same_list}
 use Rattle.fib_sync.proofs.index_pair.have_same.Goals as goal

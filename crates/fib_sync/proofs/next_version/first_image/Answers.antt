@@ -1,4 +1,4 @@
-use Rattle.std.proofs.Common.{◌≡◌, ◌∙◌, ℕ, List, [], ap, subst, sym, lit<}
+use Rattle.std.proofs.Common.{◌≡◌, ◌∙◌, ℕ, List, [], subst, sym, lit<}
 use Rattle.engine_set.specs.declared.entry.Entry.{Entry}
 use Rattle.engine_set.specs.Image.{Picture}
 use Rattle.fib_sync.specs.Control.{IsImage}

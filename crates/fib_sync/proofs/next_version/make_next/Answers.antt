@@ -1,12 +1,10 @@
-use Rattle.std.proofs.Common.{◌≡◌, ◌∙◌, ◌+◌, ℕ, List, Option, Some, ap, subst, sym, arith, lit<}
-use Rattle.std.specs.Arc.{arc_value}
+use Rattle.std.proofs.Common.{◌≡◌, ◌∙◌, ◌+◌, Option, ap, subst, sym, arith, lit<}
 use Rattle.engine_set.specs.Engine.{SameNodes, Stands, kind_of}
 use Rattle.engine_set.specs.declared.engine.Engine.{Engine}
-use Rattle.engine_set.specs.Image.{Picture}
 use Rattle.rib_store.specs.Table.{Table}
 use Rattle.plan_cut.specs.VersionTable.{table_at}
 use Rattle.fib_edits.specs.Named.{AreNamed, indexed, number_in}
-use Rattle.fib_sync.specs.Control.{CameByEdits, rows_at}
+use Rattle.fib_sync.specs.Control.{CameByEdits}
 use Rattle.fib_sync.specs.Standing.{IsAt}
 use Rattle.fib_sync.specs.VersionNames.{naming_at}
 use Rattle.fib_sync.specs.Working.{MayMove}

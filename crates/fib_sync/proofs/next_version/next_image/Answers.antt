@@ -1,5 +1,4 @@
 use Rattle.std.proofs.Common.{◌≡◌, ◌∙◌, ◌+◌, ℕ, List, length, ap, subst, sym, lit<}
-use Rattle.engine_set.specs.declared.entry.Entry.{Entry}
 use Rattle.engine_set.specs.Image.{Picture}
 use Rattle.nhgrp_slots.specs.declared.target.Target.{Target}
 use Rattle.nhop_index.specs.Indexes.{target_at}
@@ -7,7 +6,7 @@ use Rattle.rib_store.specs.Table.{Table}
 use Rattle.fib_sync.specs.Control.{IsImage}
 use Rattle.fib_sync.specs.Entries.{IsClosed, KeepIndexes}
 use Rattle.fib_sync.specs.Lawful.{AreEntriesOf, IsLawful}
-use Rattle.fib_sync.specs.VersionNames.{names_at, naming_at}
+use Rattle.fib_sync.specs.VersionNames.{names_at}
 use Rattle.fib_sync.proofs.ControlLemmas.{image_is}
 use Rattle.fib_sync.proofs.EntriesLemmas.{if_ok}
 use Rattle.fib_sync.proofs.NamingLemmas.{closed_at, kept_at}

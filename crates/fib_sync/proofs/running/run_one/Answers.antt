@@ -1,4 +1,4 @@
-use Rattle.std.proofs.Common.{◌≡◌, subst}
+use Rattle.std.proofs.Common.{subst}
 use Rattle.fib_edits.specs.Touching.{Gains, touched_by}
 use Rattle.rib_store.specs.Table.{Table}
 use Rattle.fib_sync.proofs.AheadLemmas.{ahead_more, ahead_ran}

@@ -1,4 +1,3 @@
-use Rattle.std.proofs.Common.{◌≡◌}
 use Rattle.fib_sync.proofs.AheadLemmas.{ahead_end}
 use Rattle.fib_sync.proofs.running.run_to_version.Goals as goal
 

@@ -1,4 +1,4 @@
-use Rattle.std.proofs.Common.{◌≡◌, ◌∙◌, sym}
+use Rattle.std.proofs.Common.{◌∙◌, sym}
 use Rattle.std.proofs.lemmas.Option.{none-some}
 use Rattle.nhgrp_slots.specs.Target.{target_cmp}
 use Rattle.nhgrp_slots.proofs.TargetOrder.{target_exact, target_total}

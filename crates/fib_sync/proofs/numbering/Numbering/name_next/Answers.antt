@@ -1,5 +1,4 @@
-use Rattle.std.proofs.Common.{◌≡◌, ◌∙◌, ◌+◌, Option, Some, None, ap, subst, sym, true}
-use Rattle.nhop_index.specs.Book.{Naming}
+use Rattle.std.proofs.Common.{◌≡◌, ◌∙◌, None, ap}
 use Rattle.nhop_index.specs.Indexes.{all_names}
 use Rattle.nhgrp_slots.specs.Target.{target_cmp}
 use Rattle.rib_store.specs.Targets.{live}

@@ -1,10 +1,10 @@
 -- The plan's end was asked.
-use Rattle.std.proofs.Common.{◌≡◌, ◌∙◌, ◌<◌, ◌≤◌, Bool, false, length, Some, sym, ap, subst, arith}
+use Rattle.std.proofs.Common.{◌≡◌, ◌∙◌, false, length, Some, sym, ap, subst, arith}
 use Rattle.prefix_width.specs.Choice.{choose}
 use Rattle.plan_cut.specs.PlanCourse.{course_of}
 use Rattle.plan_cut.specs.Standing.{StandsAt}
 use Rattle.fib_sync.specs.Running.{Ran}
-use Rattle.fib_sync.proofs.RunLemmas.{ends_on, made_is, number_bound}
+use Rattle.fib_sync.proofs.RunLemmas.{ends_on, number_bound}
 use Rattle.fib_sync.proofs.runner.Runner.finish.Goals as goal
 
 pub made_by-self-inside-requires : goal.made_by-self-inside-requires

@@ -1,6 +1,5 @@
 -- The edits lead from the version of the view to the next, and back.
-use Rattle.std.proofs.Common.{◌≡◌, ◌∙◌, ◌*◌, ℕ, List, length, true, false, Ok, ap, sym, subst, lit<}
-use Rattle.prefix_width.specs.Prefix.{Block}
+use Rattle.std.proofs.Common.{◌∙◌, Ok, ap, sym, subst, lit<}
 use Rattle.module_trait.specs.Rows.{AreRows, HaveIndexes}
 use Rattle.engine_set.specs.Engine.{Stands, kind_of}
 use Rattle.fib_edits.specs.Edits.{AreEdits, done_all}

@@ -1,15 +1,14 @@
 -- Version 0 is given.
-use Rattle.std.proofs.Common.{◌≡◌, ◌∙◌, ℕ, List, Some, [], false, ap, subst, sym}
-use Rattle.prefix_width.specs.Prefix.{Block}
+use Rattle.std.proofs.Common.{◌∙◌, Some, [], false, subst, sym}
 use Rattle.engine_set.specs.declared.engine.Engine.{Engine}
 use Rattle.engine_set.specs.Image.{Picture}
 use Rattle.fib_sync.specs.Standing.{IsAt, IsByEnd}
 use Rattle.fib_sync.specs.Working.{IsCopy}
 use Rattle.fib_sync.proofs.ControlLemmas.{at_begin}
-use Rattle.fib_sync.proofs.control.Control.begin.Goals as goal
+use Rattle.fib_sync.proofs.state.State.begin.Goals as goal
 
-pub invariant_of-control : goal.invariant_of-control
-invariant_of-control g c =
+pub invariant_of-state : goal.invariant_of-state
+invariant_of-state g c =
     let r = c.new-runner.result in
     let made = c.new-runner.ensures in
     let works = c.in_ok-working.ensures in

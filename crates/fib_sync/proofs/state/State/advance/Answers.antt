@@ -1,16 +1,13 @@
 -- The next version is given, or the plan has none.
-use Rattle.std.proofs.Common.{◌≡◌, ◌∙◌, ◌+◌, ◌<◌, ◌≤◌, ℕ, List, Option, Some, None, Bool, length, refl, ap, subst, sym, arith, lit<, not}
-use Rattle.std.specs.Prelude.{is_some}
+use Rattle.std.proofs.Common.{◌≡◌, ◌∙◌, ◌+◌, ◌<◌, length, refl, ap, subst, sym, arith, lit<}
 use Rattle.std.specs.Arc.{arc_value}
 use Rattle.engine_set.specs.Image.{Picture}
 use Rattle.rib_store.specs.Plan.{Planned}
 use Rattle.plan_cut.specs.PlanCourse.{versions_of}
 use Rattle.fib_sync.specs.Control.{CameByEdits, Controlled, rows_at}
-use Rattle.fib_sync.specs.Running.{Ran}
-use Rattle.fib_sync.specs.Standing.{IsAhead, IsAt, IsByEnd, IsNextVersion, IsReady, MayWork}
-use Rattle.fib_sync.specs.declared.working.Working.{Working}
+use Rattle.fib_sync.specs.Standing.{IsAhead, IsAt, IsByEnd, IsReady, MayWork}
 use Rattle.fib_sync.proofs.ControlLemmas.{at_named, at_ran, came_from, finished_is, table_is}
-use Rattle.fib_sync.proofs.control.Control.advance.Goals as goal
+use Rattle.fib_sync.proofs.state.State.advance.Goals as goal
 
 pub returns-then-made-given-clause-advances : goal.returns-then-made-given-clause-advances
 returns-then-made-given-clause-advances g c =
