@@ -1,4 +1,5 @@
 pub mod FamilyLemmas
 pub mod PacketLemmas
 pub mod ReplayLemmas
+pub mod ReplyLemmas
 pub mod ShowLemmas

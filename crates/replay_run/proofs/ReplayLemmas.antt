@@ -1,5 +1,5 @@
 -- A replay under way goes on by a line, and ends with the output.
-use Rattle.std.proofs.Common.{◌≡◌, ◌∙◌, ◌⊎◌, inl, inr, ℕ, ◌+◌, ◌<◌, ◌≤◌, Bool, true, false, cond, List, [], ◌∷◌, ◌++◌, Option, Some, None, MatchOption, length, drop, option_to_list, refl, sym, ap, subst, arith, append_assoc, append-nil, nat_eq}
+use Rattle.std.proofs.Common.{◌≡◌, ◌∙◌, ◌⊎◌, inl, inr, ℕ, ◌+◌, ◌<◌, ◌≤◌, Bool, true, false, cond, List, [], ◌∷◌, ◌++◌, Option, Some, None, MatchOption, length, drop, option_to_list, refl, sym, ap, arith, append_assoc, append-nil, nat_eq}
 use Rattle.std.specs.List.{flat_map, filter_map, slice_get, cons_option}
 use Rattle.std.specs.Option.{option_and_then}
 use Rattle.std.specs.List.Sorted.{IsStrictlySortedBy}
@@ -16,22 +16,18 @@ use Rattle.counted_map.proofs.CountMapLemmas.{IsCounts-linked, length-linked, li
 use Rattle.rib_store.specs.declared.command.Command.{Command}
 use Rattle.rib_store.specs.Plan.{Planned}
 use Rattle.rib_store.specs.declared.command.Reply.{Reply}
-use Rattle.rib_store.specs.Table.{Table, table_after}
-use Rattle.rib_store.specs.Answer.{answer}
-use Rattle.plan_cut.specs.PlanCourse.{course_of, version_at, version_before}
-use Rattle.plan_cut.specs.VersionTable.{answer_at, commands_at, commands_of}
-use Rattle.plan_cut.proofs.ListingLemmas.{get-versions-latest}
+use Rattle.plan_cut.specs.PlanCourse.{version_before}
+use Rattle.plan_cut.specs.VersionTable.{answer_at}
 use Rattle.route_lang.specs.declared.line.Line.{Line}
 use Rattle.route_lang.specs.declared.line.Line.TheVariants.{Change, Quiet, Get4, Get6}
 use Rattle.route_lang.specs.Fits.{Positions, FitsLine, HasAt, IsScript}
 use Rattle.route_lang.specs.Limits.{lines_limit}
 use Rattle.route_lang.specs.Script.{Reading}
-use Rattle.replay_run.specs.Family.{Follows, FollowsAt, IsNext}
+use Rattle.replay_run.specs.Family.{Followed, IsNext}
 use Rattle.replay_run.specs.Limits.{targets_max}
-use Rattle.replay_run.specs.Line.{numbered, get_text, packets_text}
-use Rattle.replay_run.specs.Output.{Get, Part, inet_of, inet6_of, answered, given, line_reply, line_text, packets_in, plan_text, replied, serial_output}
+use Rattle.replay_run.specs.Line.{packets_text}
+use Rattle.replay_run.specs.Output.{Get, Part, inet_of, inet6_of, answered, given, line_reply, line_text, one_reply, packets_in, plan_text, replied, reply_of, serial_output}
 use Rattle.replay_run.specs.Replay.{HasBegun, HasRoom, HasRunLine, IsPartUnderWay, IsUnderWay, in_turn}
-use Rattle.replay_run.specs.declared.family.Family.{Family}
 use Rattle.replay_run.specs.declared.family_replay.FamilyReplay.{FamilyReplay}
 use Rattle.replay_run.specs.declared.serial_replay.Replay.{Replay}
 
@@ -98,101 +94,110 @@ room_behind packets (Some h) line rest room = record {
 
 -- ---- a family goes on by a line
 
-part_on : {w live : ℕ} (part : Part w) (script : Reading) (line : Line) (v : ℕ) (rest : List Line) (before after : FamilyReplay w live)
+part_on : {w K live : ℕ} (part : Part w) (script : Reading) (line : Line) (v : ℕ) (rest : List Line) (before after : FamilyReplay w K live)
     → in_turn live script (line ∷ rest) ≡ (line, v) ∷ in_turn live script rest → IsPartUnderWay part script (line ∷ rest) before
-    → Follows part.plan after.family → after.packets ≡ linked_all hop_cmp before.packets (option_to_list (given live part (line, v)))
+    → after.family.plan ≡ before.family.plan → after.packets ≡ linked_all hop_cmp before.packets (option_to_list (given live part (line, v)))
     → IsPartUnderWay part script rest after
-part_on {w} {live} part script line v rest before after turn h follows packets = record {
-  follows = follows;
+part_on {w} {K} {live} part script line v rest before after turn h plan packets = record {
+  plan = plan ∙ h.plan;
   packets = counted before.packets after.packets _ (given live part (line, v)) (filter_map (given live part) (in_turn live script rest)) packets
       (ap (λ lines. linked_all hop_cmp before.packets (filter_map (given live part) lines)) (sym turn) ∙ h.packets);
   room = rw packets (room_behind before.packets (given live part (line, v)) line rest h.room);
 }
 
--- the last version's rows give what a scan of its table gives
-scanned : {w live : ℕ} (plan : Planned w) (family : Family w live) (at addr flow : ℕ) → FollowsAt plan at family → answer w family.rows addr flow ≡ answer_at live plan (version_before live plan at) addr flow
-scanned {w} {live} plan family at addr flow h =
-    let listed : commands_at live plan (version_before live plan at) ≡ (version_at live plan at).count = ap commands_of (get-versions-latest (course_of live plan) at h.within) in
-    ap (λ (rows : Table). answer w rows addr flow) (h.rows ∙ ap (table_after live plan) (sym listed))
+-- what a family answers behind so many commands of its plan
+answer_is : {w : ℕ} (live : ℕ) (plan same : Planned w) (n at addr flow : ℕ) → plan ≡ same → n ≡ at
+    → answer_at live plan (version_before live plan n) addr flow ≡ answer_at live same (version_before live same at) addr flow
+answer_is live plan same n at addr flow e f =
+    ap (λ p. answer_at live p (version_before live p n) addr flow) e ∙ ap (λ k. answer_at live same (version_before live same k) addr flow) f
 
--- the line of a get
-line_is : {w live : ℕ} (plan : Planned w) (family : Family w live) (at line addr flow : ℕ) → FollowsAt plan at family
-    → numbered line (get_text w addr family.version (answer w family.rows addr flow)) ≡ answered live plan (version_before live plan at) line addr flow
-line_is {w} {live} plan family at line addr flow h =
-    ap (λ v. numbered line (get_text w addr v (answer w family.rows addr flow))) h.number
-    ∙ ap (λ o. numbered line (get_text w addr (version_before live plan at) o)) (scanned plan family at addr flow h)
+line_is : {w : ℕ} (live : ℕ) (plan same : Planned w) (n at line addr flow : ℕ) → plan ≡ same → n ≡ at
+    → answered live plan (version_before live plan n) line addr flow ≡ answered live same (version_before live same at) line addr flow
+line_is live plan same n at line addr flow e f =
+    ap (λ p. answered live p (version_before live p n) line addr flow) e ∙ ap (λ k. answered live same (version_before live same k) line addr flow) f
 
 -- the family of a get
-part_got : {w live : ℕ} (part : Part w) (script : Reading) (line : Line) (addr flow at : ℕ) (rest : List Line) (before after : FamilyReplay w live)
+part_got : {w K live : ℕ} (part : Part w) (script : Reading) (line : Line) (addr flow at : ℕ) (rest : List Line) (before after : FamilyReplay w K live)
     → in_turn live script (line ∷ rest) ≡ (line, version_before live part.plan at) ∷ in_turn live script rest → part.get_of line ≡ Some (record { addr = addr; flow = flow })
-    → IsPartUnderWay part script (line ∷ rest) before → FollowsAt part.plan at before.family
-    → after.family ≡ before.family → after.packets ≡ linked_all hop_cmp before.packets (option_to_list (answer w before.family.rows addr flow))
+    → IsPartUnderWay part script (line ∷ rest) before → before.family.commands ≡ at
+    → after.family ≡ before.family → after.packets ≡ linked_all hop_cmp before.packets (option_to_list (answer_at live before.family.plan (version_before live before.family.plan before.family.commands) addr flow))
     → IsPartUnderWay part script rest after
-part_got {w} {live} part script line addr flow at rest before after turn get h follows family packets =
-    part_on part script line (version_before live part.plan at) rest before after turn h (subst (Follows part.plan) (sym family) h.follows)
-    (packets ∙ ap (λ o. linked_all hop_cmp before.packets (option_to_list o)) (scanned part.plan before.family at addr flow follows ∙ sym (ap (option_and_then (λ (get : Get). answer_at live part.plan (version_before live part.plan at) get.addr get.flow)) get)))
+part_got {w} {K} {live} part script line addr flow at rest before after turn get h here family packets =
+    part_on part script line (version_before live part.plan at) rest before after turn h (ap (λ (f : Followed w). f.plan) family)
+    (packets ∙ ap (λ o. linked_all hop_cmp before.packets (option_to_list o)) (answer_is live before.family.plan part.plan before.family.commands at addr flow h.plan here ∙ sym (ap (option_and_then (λ (get : Get). answer_at live part.plan (version_before live part.plan at) get.addr get.flow)) get)))
 
 -- ---- the replay goes on by a line
 
-pub after_change : (script : Reading) (number : ℕ) (inet inet6 : Option ℕ) (rest : List Line) (before after : Replay) (reply : Option Reply)
-    → IsUnderWay script (Change number inet inet6 ∷ rest) before
-    → HasRunLine script.inet inet before.inet after.inet → HasRunLine script.inet6 inet6 before.inet6 after.inet6 → reply ≡ line_reply targets_max script inet inet6
-    → after.out.items ≡ before.out.items ++ replied number reply
-    → IsUnderWay script rest after
-after_change script number inet inet6 rest before after reply h run run6 same out =
-    let line = Change number inet inet6 in
-    record {
-      inet = part_on (inet_of script) script line 0 rest before.inet after.inet refl h.inet run.follows run.packets;
-      inet6 = part_on (inet6_of script) script line 0 rest before.inet6 after.inet6 refl h.inet6 run6.follows run6.packets;
-      fits = rw (run.commands, run6.commands) h.fits.1;
-      text = written (line_text targets_max script) before.out.items after.out.items _ _ (line, 0) (in_turn targets_max script rest) out (ap (replied number) same) h.text;
-    }
+-- the replies of both families are those of the script
+replies_are : (script : Reading) (plan : Planned 32) (plan6 : Planned 128) (inet inet6 : Option ℕ) → plan ≡ script.inet → plan6 ≡ script.inet6
+    → one_reply (reply_of targets_max plan inet) (reply_of targets_max plan6 inet6) ≡ line_reply targets_max script inet inet6
+replies_are script plan plan6 inet inet6 e f =
+    ap (λ p. one_reply (reply_of targets_max p inet) (reply_of targets_max plan6 inet6)) e ∙ ap (λ p. one_reply (reply_of targets_max script.inet inet) (reply_of targets_max p inet6)) f
 
-pub after_quiet : (script : Reading) (number : ℕ) (inet inet6 : Option ℕ) (rest : List Line) (before after : Replay)
-    → IsUnderWay script (Quiet number inet inet6 ∷ rest) before
-    → HasRunLine script.inet inet before.inet after.inet → HasRunLine script.inet6 inet6 before.inet6 after.inet6
-    → after.out.items ≡ before.out.items
-    → IsUnderWay script rest after
-after_quiet script number inet inet6 rest before after h run run6 out =
-    let line = Quiet number inet inet6 in
-    record {
-      inet = part_on (inet_of script) script line 0 rest before.inet after.inet refl h.inet run.follows run.packets;
-      inet6 = part_on (inet6_of script) script line 0 rest before.inet6 after.inet6 refl h.inet6 run6.follows run6.packets;
-      fits = rw (run.commands, run6.commands) h.fits.1;
-      text = written (line_text targets_max script) before.out.items after.out.items [] _ (line, 0) (in_turn targets_max script rest) (out ∙ sym (append-nil before.out.items)) refl h.text;
-    }
+module _ {L : Type 0} where
+  pub after_change : (script : Reading) (number : ℕ) (inet inet6 : Option ℕ) (rest : List Line) (before after : Replay L) (reply : Option Reply)
+      → IsUnderWay script (Change number inet inet6 ∷ rest) before
+      → HasRunLine inet before.inet after.inet → HasRunLine inet6 before.inet6 after.inet6
+      → reply ≡ one_reply (reply_of targets_max before.inet.family.plan inet) (reply_of targets_max before.inet6.family.plan inet6)
+      → after.out.items ≡ before.out.items ++ replied number reply
+      → IsUnderWay script rest after
+  after_change script number inet inet6 rest before after reply h run run6 same out =
+      let line = Change number inet inet6 in
+      record {
+        inet = part_on (inet_of script) script line 0 rest before.inet after.inet refl h.inet run.plan run.packets;
+        inet6 = part_on (inet6_of script) script line 0 rest before.inet6 after.inet6 refl h.inet6 run6.plan run6.packets;
+        fits = rw (run.commands, run6.commands) h.fits.1;
+        text = written (line_text targets_max script) before.out.items after.out.items _ _ (line, 0) (in_turn targets_max script rest) out
+            (ap (replied number) (same ∙ replies_are script before.inet.family.plan before.inet6.family.plan inet inet6 h.inet.plan h.inet6.plan)) h.text;
+      }
 
-pub after_get4 : (script : Reading) (number addr flow at : ℕ) (rest : List Line) (before after : Replay)
-    → IsUnderWay script (Get4 number addr flow at ∷ rest) before
-    → after.inet6 ≡ before.inet6 → after.inet.family ≡ before.inet.family
-    → after.inet.packets ≡ linked_all hop_cmp before.inet.packets (option_to_list (answer 32 before.inet.family.rows addr flow))
-    → after.out.items ≡ before.out.items ++ numbered number (get_text 32 addr before.inet.family.version (answer 32 before.inet.family.rows addr flow))
-    → IsUnderWay script rest after
-after_get4 script number addr flow at rest before after h other family packets out =
-    let line = Get4 number addr flow at in
-    let follows : FollowsAt script.inet at before.inet.family = subst (λ n. FollowsAt script.inet n before.inet.family) (sym h.fits.0) h.inet.follows in
-    record {
-      inet = part_got (inet_of script) script line addr flow at rest before.inet after.inet refl refl h.inet follows family packets;
-      inet6 = part_on (inet6_of script) script line (version_before targets_max script.inet at) rest before.inet6 after.inet6 refl h.inet6 (rw other h.inet6.follows) (rw other refl);
-      fits = rw (family, other) h.fits.1;
-      text = written (line_text targets_max script) before.out.items after.out.items _ _ (line, version_before targets_max script.inet at) (in_turn targets_max script rest) out (line_is script.inet before.inet.family at number addr flow follows) h.text;
-    }
+  pub after_quiet : (script : Reading) (number : ℕ) (inet inet6 : Option ℕ) (rest : List Line) (before after : Replay L)
+      → IsUnderWay script (Quiet number inet inet6 ∷ rest) before
+      → HasRunLine inet before.inet after.inet → HasRunLine inet6 before.inet6 after.inet6
+      → after.out.items ≡ before.out.items
+      → IsUnderWay script rest after
+  after_quiet script number inet inet6 rest before after h run run6 out =
+      let line = Quiet number inet inet6 in
+      record {
+        inet = part_on (inet_of script) script line 0 rest before.inet after.inet refl h.inet run.plan run.packets;
+        inet6 = part_on (inet6_of script) script line 0 rest before.inet6 after.inet6 refl h.inet6 run6.plan run6.packets;
+        fits = rw (run.commands, run6.commands) h.fits.1;
+        text = written (line_text targets_max script) before.out.items after.out.items [] _ (line, 0) (in_turn targets_max script rest) (out ∙ sym (append-nil before.out.items)) refl h.text;
+      }
 
-pub after_get6 : (script : Reading) (number addr flow at : ℕ) (rest : List Line) (before after : Replay)
-    → IsUnderWay script (Get6 number addr flow at ∷ rest) before
-    → after.inet ≡ before.inet → after.inet6.family ≡ before.inet6.family
-    → after.inet6.packets ≡ linked_all hop_cmp before.inet6.packets (option_to_list (answer 128 before.inet6.family.rows addr flow))
-    → after.out.items ≡ before.out.items ++ numbered number (get_text 128 addr before.inet6.family.version (answer 128 before.inet6.family.rows addr flow))
-    → IsUnderWay script rest after
-after_get6 script number addr flow at rest before after h other family packets out =
-    let line = Get6 number addr flow at in
-    let follows : FollowsAt script.inet6 at before.inet6.family = subst (λ n. FollowsAt script.inet6 n before.inet6.family) (sym h.fits.0) h.inet6.follows in
-    record {
-      inet = part_on (inet_of script) script line (version_before targets_max script.inet6 at) rest before.inet after.inet refl h.inet (rw other h.inet.follows) (rw other refl);
-      inet6 = part_got (inet6_of script) script line addr flow at rest before.inet6 after.inet6 refl refl h.inet6 follows family packets;
-      fits = rw (other, family) h.fits.1;
-      text = written (line_text targets_max script) before.out.items after.out.items _ _ (line, version_before targets_max script.inet6 at) (in_turn targets_max script rest) out (line_is script.inet6 before.inet6.family at number addr flow follows) h.text;
-    }
+  pub after_get4 : (script : Reading) (number addr flow at : ℕ) (rest : List Line) (before after : Replay L)
+      → IsUnderWay script (Get4 number addr flow at ∷ rest) before
+      → after.inet6 ≡ before.inet6 → after.inet.family ≡ before.inet.family
+      → after.inet.packets ≡ linked_all hop_cmp before.inet.packets (option_to_list (answer_at targets_max before.inet.family.plan (version_before targets_max before.inet.family.plan before.inet.family.commands) addr flow))
+      → after.out.items ≡ before.out.items ++ answered targets_max before.inet.family.plan (version_before targets_max before.inet.family.plan before.inet.family.commands) number addr flow
+      → IsUnderWay script rest after
+  after_get4 script number addr flow at rest before after h other family packets out =
+      let line = Get4 number addr flow at in
+      let here : before.inet.family.commands ≡ at = sym h.fits.0 in
+      record {
+        inet = part_got (inet_of script) script line addr flow at rest before.inet after.inet refl refl h.inet here family packets;
+        inet6 = part_on (inet6_of script) script line (version_before targets_max script.inet at) rest before.inet6 after.inet6 refl h.inet6 (rw other refl) (rw other refl);
+        fits = rw (family, other) h.fits.1;
+        text = written (line_text targets_max script) before.out.items after.out.items _ _ (line, version_before targets_max script.inet at) (in_turn targets_max script rest) out
+            (line_is targets_max before.inet.family.plan script.inet before.inet.family.commands at number addr flow h.inet.plan here) h.text;
+      }
+
+  pub after_get6 : (script : Reading) (number addr flow at : ℕ) (rest : List Line) (before after : Replay L)
+      → IsUnderWay script (Get6 number addr flow at ∷ rest) before
+      → after.inet ≡ before.inet → after.inet6.family ≡ before.inet6.family
+      → after.inet6.packets ≡ linked_all hop_cmp before.inet6.packets (option_to_list (answer_at targets_max before.inet6.family.plan (version_before targets_max before.inet6.family.plan before.inet6.family.commands) addr flow))
+      → after.out.items ≡ before.out.items ++ answered targets_max before.inet6.family.plan (version_before targets_max before.inet6.family.plan before.inet6.family.commands) number addr flow
+      → IsUnderWay script rest after
+  after_get6 script number addr flow at rest before after h other family packets out =
+      let line = Get6 number addr flow at in
+      let here : before.inet6.family.commands ≡ at = sym h.fits.0 in
+      record {
+        inet = part_on (inet_of script) script line (version_before targets_max script.inet6 at) rest before.inet after.inet refl h.inet (rw other refl) (rw other refl);
+        inet6 = part_got (inet6_of script) script line addr flow at rest before.inet6 after.inet6 refl refl h.inet6 here family packets;
+        fits = rw (other, family) h.fits.1;
+        text = written (line_text targets_max script) before.out.items after.out.items _ _ (line, version_before targets_max script.inet6 at) (in_turn targets_max script rest) out
+            (line_is targets_max before.inet6.family.plan script.inet6 before.inet6.family.commands at number addr flow h.inet6.plan here) h.text;
+      }
 
 -- ---- the beginning and the end
 
@@ -200,14 +205,14 @@ pub no_counts : IsCounts hop_cmp []
 unfolding IsStrictlySortedBy
 no_counts = record { order = tt; some = All-nil (λ n. 1 ≤ n) }
 
-part_first : {w live : ℕ} (part : Part w) (script : Reading) (replay : FamilyReplay w live) → length script.lines ≤ lines_limit → HasBegun replay → IsPartUnderWay part script script.lines replay
-part_first {w} {live} part script replay few new = record {
-  follows = new.follows part.plan;
+part_first : {w K live : ℕ} (part : Part w) (script : Reading) (replay : FamilyReplay w K live) → length script.lines ≤ lines_limit → HasBegun part.plan replay → IsPartUnderWay part script script.lines replay
+part_first part script replay few new = record {
+  plan = new.plan;
   packets = rw new.packets refl;
   room = rw new.packets (record { counts = no_counts; each = λ q. omega (arith, few); all = omega (arith, few) });
 }
 
-pub at_first : (script : Reading) (replay : Replay) → IsScript script → HasBegun replay.inet → HasBegun replay.inet6 → replay.out.items ≡ [] → IsUnderWay script script.lines replay
+pub at_first : {L : Type 0} (script : Reading) (replay : Replay L) → IsScript script → HasBegun script.inet replay.inet → HasBegun script.inet6 replay.inet6 → replay.out.items ≡ [] → IsUnderWay script script.lines replay
 at_first script replay facts new new6 out = record {
   inet = part_first (inet_of script) script replay.inet facts.few new;
   inet6 = part_first (inet6_of script) script replay.inet6 facts.few new6;
@@ -216,11 +221,11 @@ at_first script replay facts new new6 out = record {
 }
 
 -- what is written behind the last line ends the output
-pub at_last : (script : Reading) (replay : Replay) (plan : Planned 32) (plan6 : Planned 128) (first second third out : List ℕ) → IsUnderWay script [] replay → plan ≡ script.inet → plan6 ≡ script.inet6
+pub at_last : {L : Type 0} (script : Reading) (replay : Replay L) (first second third out : List ℕ) → IsUnderWay script [] replay
     → first ≡ replay.out.items ++ flat_map (packets_text 32) replay.inet.packets → second ≡ first ++ flat_map (packets_text 128) replay.inet6.packets
-    → third ≡ second ++ plan_text targets_max plan → out ≡ third ++ plan_text targets_max plan6 → out ≡ serial_output targets_max script
-at_last script replay plan plan6 first second third out h is is6 a b c d =
+    → third ≡ second ++ plan_text targets_max replay.inet.family.plan → out ≡ third ++ plan_text targets_max replay.inet6.family.plan → out ≡ serial_output targets_max script
+at_last script replay first second third out h a b c d =
     let text : replay.out.items ≡ flat_map (line_text targets_max script) (in_turn targets_max script script.lines) = sym (append-nil replay.out.items) ∙ h.text in
     let packets : replay.inet.packets ≡ packets_in targets_max (inet_of script) (in_turn targets_max script script.lines) = h.inet.packets in
     let packets6 : replay.inet6.packets ≡ packets_in targets_max (inet6_of script) (in_turn targets_max script script.lines) = h.inet6.packets in
-    simp (d, c, b, a, text, packets, packets6, is, is6, append_assoc)
+    simp (d, c, b, a, text, packets, packets6, h.inet.plan, h.inet6.plan, append_assoc)

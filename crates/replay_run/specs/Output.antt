@@ -1,6 +1,6 @@
 -- Output: the text of a replay of a script, where each get is answered at a version of its family, and where tables have
 -- room for so many live targets.
-use Rattle.std.specs.Prelude.{ℕ, zero, suc, ◌+◌, List, [], ◌∷◌, ◌++◌, length, Option, Some, None, option_map, slice_get}
+use Rattle.std.specs.Prelude.{ℕ, zero, suc, ◌+◌, List, [], ◌∷◌, ◌++◌, length, Option, Some, None}
 use Rattle.std.specs.List.{flat_map, filter_map}
 use Rattle.std.specs.Option.{option_and_then}
 use Rattle.prefix_width.specs.Nexthop.{Hop}
@@ -8,9 +8,10 @@ use Rattle.counted_map.specs.Counts.{Counts}
 use Rattle.rib_store.specs.declared.command.Reply.{Reply}
 use Rattle.rib_store.specs.declared.command.Reply.TheVariants.{Flushed}
 use Rattle.rib_store.specs.Plan.{Planned}
-use Rattle.rib_store.specs.Table.{apply, table_after}
+use Rattle.rib_store.specs.Table.{table_after}
 use Rattle.plan_cut.specs.PlanCourse.{version_before, last_version}
 use Rattle.plan_cut.specs.VersionTable.{answer_at}
+use Rattle.fib_sync.specs.Replies.{reply_at}
 use Rattle.route_lang.specs.declared.line.Line.{Line}
 use Rattle.route_lang.specs.declared.line.Line.TheVariants.{Change, Quiet, Get4, Get6}
 use Rattle.route_lang.specs.Script.{Reading}
@@ -66,10 +67,6 @@ serial_versions live script (Get6 line addr flow at ∷ lines) zero = version_be
 serial_versions live script (Get6 line addr flow at ∷ lines) (suc j) = serial_versions live script lines j
 
 -- ---- one line
-
--- the reply to the command at a position of a plan
-abbrev pub reply_at : {w : ℕ} → ℕ → Planned w → ℕ → Option Reply
-reply_at live plan pos = option_map (λ c. (apply live (table_after live plan pos) c).reply) (slice_get plan.commands pos)
 
 -- the reply to the command of a line, if the line has one in this plan
 abbrev pub reply_of : {w : ℕ} → ℕ → Planned w → Option ℕ → Option Reply

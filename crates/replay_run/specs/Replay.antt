@@ -9,7 +9,6 @@ use Rattle.route_lang.specs.declared.line.Line.{Line}
 use Rattle.route_lang.specs.Limits.{lines_limit}
 use Rattle.route_lang.specs.Script.{Reading}
 use Rattle.route_lang.specs.Fits.{Positions, Fits, behind}
-use Rattle.replay_run.specs.Family.{Follows, IsNext}
 use Rattle.replay_run.specs.Limits.{targets_max}
 use Rattle.replay_run.specs.Output.{Part, inet_of, inet6_of, line_text, given, packets_in, paired, serial_versions}
 use Rattle.replay_run.specs.declared.family_replay.FamilyReplay.{FamilyReplay}
@@ -27,37 +26,32 @@ in_turn live script lines = paired lines (serial_versions live script lines)
 
 -- ---- a family
 
--- nothing was done: any plan is followed, and no packet was counted
-pub record HasBegun {w live : ℕ} (replay : FamilyReplay w live) : Type 0 where
-  pub follows : (plan : Planned w) → Follows plan replay.family
+-- nothing was done: no command of the plan was taken, and no packet was counted
+pub record HasBegun {w K live : ℕ} (asked : Planned w) (replay : FamilyReplay w K live) : Type 0 where
+  pub plan : replay.family.plan ≡ asked
   pub commands : replay.family.commands ≡ 0
   pub packets : replay.packets ≡ []
 
--- the command of a line, if it has one in this plan, may be run
-pub record MayRunLine {w live : ℕ} (plan : Planned w) (position : Option ℕ) (replay : FamilyReplay w live) : Type 0 where
-  pub follows : Follows plan replay.family
-  pub next : IsNext position replay.family.commands (length plan.commands)
-
--- it was run, and no packet was counted
-pub record HasRunLine {w live : ℕ} (plan : Planned w) (position : Option ℕ) (old new : FamilyReplay w live) : Type 0 where
-  pub follows : Follows plan new.family
+-- the command of a line, if it has one in this plan, was taken, and no packet was counted
+pub record HasRunLine {w K live : ℕ} (position : Option ℕ) (old new : FamilyReplay w K live) : Type 0 where
+  pub plan : new.family.plan ≡ old.family.plan
   pub commands : new.family.commands ≡ behind old.family.commands position
   pub packets : new.packets ≡ old.packets
 
 -- these lines are left to a family
-pub record IsPartUnderWay {w live : ℕ} (part : Part w) (script : Reading) (rest : List Line) (replay : FamilyReplay w live) : Type 0 where
-  pub follows : Follows part.plan replay.family
+pub record IsPartUnderWay {w K live : ℕ} (part : Part w) (script : Reading) (rest : List Line) (replay : FamilyReplay w K live) : Type 0 where
+  pub plan : replay.family.plan ≡ part.plan
   pub packets : linked_all hop_cmp replay.packets (filter_map (given live part) (in_turn live script rest)) ≡ packets_in live part (in_turn live script script.lines)
   pub room : HasRoom replay.packets (length rest)
 
 -- ---- both families
 
 -- how many commands of each plan were run
-abbrev pub commands_run : Replay → Positions
+abbrev pub commands_run : {L : Type 0} → Replay L → Positions
 commands_run replay = record { inet = replay.inet.family.commands; inet6 = replay.inet6.family.commands }
 
 -- these lines are left
-pub record IsUnderWay (script : Reading) (rest : List Line) (replay : Replay) : Type 0 where
+pub record IsUnderWay {L : Type 0} (script : Reading) (rest : List Line) (replay : Replay L) : Type 0 where
   pub inet : IsPartUnderWay (inet_of script) script rest replay.inet
   pub inet6 : IsPartUnderWay (inet6_of script) script rest replay.inet6
   pub fits : Fits script.inet script.inet6 (commands_run replay) rest

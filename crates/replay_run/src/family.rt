@@ -1,33 +1,64 @@
-ghost use Rattle.std.specs.Prelude.{◌≡◌, ◌+◌, ◌^◌, ◌<◌, not, IfOk, OnOk, OnErr, length, Some};
-ghost use Rattle.prefix_width.specs.Choice.{SettingSuits, is_kind};
-ghost use Rattle.prefix_width.specs.Limits.{AreTargets};
+ghost use Rattle.std.specs.Prelude.{◌≡◌, ℕ, ◌+◌, ◌<◌, ◌≤◌, true, IfOk, OnOk, OnErr, length, Some};
+ghost use Rattle.std.specs.Arc.{arc_value};
+ghost use Rattle.prefix_width.specs.Limits.{AreBanks, AreTargets};
+ghost use Rattle.prefix_width.specs.Nexthop.{Hop};
 ghost use Rattle.rib_store.specs.Limits.{routes_max};
-ghost use Rattle.rib_store.specs.Plan.{IsWrongModule, Planned};
-ghost use Rattle.rib_store.specs.Table.{table_after};
-ghost use Rattle.plan_cut.specs.PlanCourse.{last_version, set_by};
-ghost use Rattle.replay_run.specs.Family.{Follows, FlushesAtMost, WantsMemory, kept_by};
-ghost use Rattle.replay_run.specs.Output.{reply_at};
+ghost use Rattle.plan_cut.specs.PlanCourse.{version_before};
+ghost use Rattle.plan_cut.specs.VersionTable.{answer_at};
+ghost use Rattle.engine_set.specs.Engine.{kind_of};
+ghost use Rattle.nhop_index.specs.Indexes.{target_at};
+ghost use Rattle.fib_sync.specs.Control.{IsControl};
+ghost use Rattle.fib_sync.specs.Lawful.{IsSent};
+ghost use Rattle.fib_sync.specs.Replies.{reply_at};
+ghost use Rattle.replay_run.specs.Family.{FlushesAtMost, IsAhead, IsLast, is_asked, is_made_by};
 
 use crate::OutOfMemory;
-use engine_set::choose;
-use plan_cut::{Cut, Cutter, accepted};
-use prefix_width::{Kind, Setting};
-use rib_store::{Command, Plan, Reply, Rib, Rows};
+use engine_set::Image;
+use fib_sync::{Advance, Control, lookup};
+use module_trait::Steps;
+use nhgrp_slots::Target;
+use nhop_index::Indexes;
+use prefix_width::{Addr, Kind, Nexthop};
+use rib_store::{Plan, Reply};
 use std::alloc::Global;
+use std::marker::Model;
+use std::mem;
+use std::sync::Arc;
+use std::sync::ledger::Ledger;
 
-/// One family of a replay: its table after the commands so far, with room for `LIVE` live targets,
-/// and its last version.
+/// The version behind the last one made, as far as the control was asked for it.
 #[derive(Drop)]
-pub(crate) struct Family<const W: u32, const LIVE: u32> {
-    /// How many commands of the plan were run.
-    pub(crate) commands: u32,
-    pub(crate) rib: Rib<W, LIVE>,
-    pub(crate) setting: Setting,
-    pub(crate) cutter: Cutter,
-    /// The last version: its number, its module, and the rows of its table.
-    pub(crate) version: u64,
-    pub(crate) kind: Kind,
-    pub(crate) rows: Rows<W>,
+pub(crate) enum Ahead<const W: u32> {
+    /// It was not asked, or memory was wanting.
+    Unasked,
+    /// It has given the image, before the commands that make the version are taken.
+    Given(Arc<Image<W>>),
+    /// The plan has no further version.
+    Finished,
+}
+
+/// One family of a replay: the commands taken so far, and the image of the last version that they
+/// have made.
+#[derive(Drop)]
+pub(crate) struct Family<const W: u32, const K: u64, const LIVE: u32> {
+    control: Control<W, K, LIVE>,
+    // How many commands were taken.
+    commands: u32,
+    image: Arc<Image<W>>,
+    // What the image's indexes stand for.
+    indexes: Indexes<W, K, LIVE>,
+    ahead: Ahead<W>,
+}
+
+impl<const W: u32, const K: u64, const LIVE: u32> Model for Family<W, K, LIVE> {
+    ghost use Rattle.std.specs.Arc.{arc_value};
+    ghost use Rattle.replay_run.specs.Family.{Followed, IsFamily, known_of};
+
+    ghost Value = { Followed W };
+
+    ghost view = { λ f. record { plan = f.control.plan; commands = f.commands; known = known_of f.control f.commands f.ahead } };
+
+    ghost invariant = { λ f. IsFamily K LIVE f.control f.commands (arc_value f.image) f.indexes.names f.ahead };
 }
 
 /// The last version of a plan, its end included.
@@ -38,125 +69,201 @@ pub(crate) struct Last {
     pub(crate) kind: Kind,
 }
 
-impl<const W: u32, const LIVE: u32> Family<W, LIVE> {
-    /// No command was run: the empty table is version 0.
-    pub(crate) fn new(alloc: Global) -> Self
-        requires { AreTargets LIVE }
-        ensures commands { result.commands ≡ 0 }
-        ensures follows { (plan : Planned W) → Follows plan result }
+impl<const W: u32, const K: u64, const LIVE: u32> Family<W, K, LIVE> {
+    /// No command is taken: the empty table is version 0.
+    pub(crate) fn begin(alloc: Global, plan: &Arc<Plan<W>>) -> Result<Self, OutOfMemory>
+        requires banks { AreBanks K }
+        requires targets { AreTargets LIVE }
+        ensures plan { IfOk result (λ family. family.plan ≡ arc_value plan.now) }
+        ensures commands { IfOk result (λ family. family.commands ≡ 0) }
     {
-        Family {
+        let (control, image) = Control::begin(alloc, Arc::try_clone(plan)?)?;
+        let indexes = control.indexes().copy(alloc)?;
+        Ok(Family {
+            control,
             commands: 0,
-            rib: Rib::new(alloc),
-            setting: Setting::Auto,
-            cutter: Cutter::new(),
-            version: 0,
-            kind: Kind::Range,
-            rows: Rows::new(alloc),
-        }
+            image,
+            indexes,
+            ahead: Ahead::Unasked,
+        })
     }
 
-    /// Runs the next command of the plan, and keeps the version that it makes, if it makes one.
-    /// Where memory is wanting nothing is done, or the command is run and the last version is as before.
-    pub(crate) fn run(&mut self, alloc: Global, plan: &Plan<W>) -> Result<Reply, OutOfMemory>
-        requires follows { Follows plan.now self.old }
-        requires inside { self.old.commands < length plan.now.commands }
-        ensures follows { OnOk result (Follows plan.now self.new) }
-        ensures commands { OnOk result (self.new.commands ≡ self.old.commands + 1) }
-        ensures reply { IfOk result (λ reply. Some reply ≡ reply_at LIVE plan.now self.old.commands) }
-        ensures flushes { IfOk result (FlushesAtMost routes_max) }
-        ensures err { OnErr result (WantsMemory plan.now self.old self.new) }
+    /// The last version that the commands taken have made.
+    pub(crate) fn version(&self) -> u64
+        ensures { result ≡ version_before LIVE self.now.plan self.now.commands }
     {
-        let command = plan.command(self.commands);
-        let _most = self.rib.len();
-        let reply = self.rib.apply(alloc, command)?;
-        self.commands += 1;
-        self.setting = setting_behind(self.setting, command);
-        let kind = choose::<W>(Some(self.kind), self.setting, self.rib.len());
-        let differs = is_other(kind, self.kind);
-        let cut = self.cutter.step(accepted(&reply), command, differs);
-        self.keep(alloc, cut, kind)?;
+        self.image.version()
+    }
+
+    /// The nexthop for an address and a flow in that version, `None` where it has no route.
+    pub(crate) fn answer<L: Ledger>(
+        &self,
+        addr: &Addr<W>,
+        flow: u32,
+        steps: &mut Steps<L>,
+    ) -> Option<Nexthop<W>>
+        ensures { result ≡ answer_at LIVE self.now.plan (version_before LIVE self.now.plan self.now.commands) addr.now flow }
+    {
+        // What a plan keeps: its paths have weights.
+        let _weighted = self.control.plan().len();
+        let index = lookup(&self.image, *addr, flow, steps);
+        sent_to(&self.indexes, index)
+    }
+
+    /// Takes the next command of the plan, and gives the reply to it. Where memory is wanting it is
+    /// not taken.
+    pub(crate) fn take(&mut self, alloc: Global) -> Result<Reply, OutOfMemory>
+        requires { self.old.commands < length self.old.plan.commands }
+        ensures plan { self.new.plan ≡ self.old.plan }
+        ensures commands { OnOk result (self.new.commands ≡ self.old.commands + 1) }
+        ensures reply { IfOk result (λ reply. Some reply ≡ reply_at LIVE self.old.plan self.old.commands) }
+        ensures flushes { IfOk result (FlushesAtMost routes_max) }
+        ensures err { OnErr result (self.new.commands ≡ self.old.commands) }
+    {
+        self.look_ahead(alloc)?;
+        let reply = self.next_reply();
+        self.count_command(alloc)?;
         Ok(reply)
     }
 
-    /// Keeps the table as it stands as a version of this module, if one is cut.
-    fn keep(&mut self, alloc: Global, cut: Cut, kind: Kind) -> Result<(), OutOfMemory>
-        requires { self.old.version < 2 ^ 32 }
-        ensures version { OnOk result (self.new.version ≡ kept_by cut (self.old.version + 1) self.old.version) }
-        ensures kind { OnOk result (self.new.kind ≡ kept_by cut kind self.old.kind) }
-        ensures rows { OnOk result (self.new.rows ≡ kept_by cut self.old.rib self.old.rows) }
-        ensures commands { OnOk result (self.new.commands ≡ self.old.commands) }
-        ensures rib { OnOk result (self.new.rib ≡ self.old.rib) }
-        ensures setting { OnOk result (self.new.setting ≡ self.old.setting) }
-        ensures cutter { OnOk result (self.new.cutter ≡ self.old.cutter) }
-        ensures err { OnErr result (self.new ≡ self.old) }
+    /// Asks the control for the next version, where that was not done.
+    fn look_ahead(&mut self, alloc: Global) -> Result<(), OutOfMemory>
+        ensures plan { self.new.plan ≡ self.old.plan }
+        ensures commands { self.new.commands ≡ self.old.commands }
+        ensures known { OnOk result (self.old.commands < length self.old.plan.commands → self.old.commands < self.new.known) }
     {
-        match cut {
-            Cut::Stay => {}
-            Cut::Now => {
-                self.rows = self.rib.rows(alloc)?;
-                self.version += 1;
-                self.kind = kind;
-            }
+        if self.ahead.is_asked() {
+            return Ok(());
         }
+        self.ahead = ask(alloc, &mut self.control)?;
         Ok(())
     }
 
-    /// The last version of the plan, all of whose commands were run.
-    pub(crate) fn finish(self, plan: &Plan<W>) -> Last
-        requires follows { Follows plan.now self }
-        requires all { self.commands ≡ length plan.now.commands }
-        ensures version { result.version ≡ (last_version LIVE plan.now).number }
-        ensures routes { result.routes ≡ length (table_after LIVE plan.now (last_version LIVE plan.now).count) }
-        ensures kind { result.kind ≡ (last_version LIVE plan.now).kind }
+    /// The reply to the next command, which the control has run.
+    fn next_reply(&self) -> Reply
+        requires { self.now.commands < self.now.known }
+        ensures reply { Some result ≡ reply_at LIVE self.now.plan self.now.commands }
+        ensures flushes { FlushesAtMost routes_max result }
+    {
+        self.control.replies()[self.commands as usize]
+    }
+
+    /// Counts the next command as taken. Where it made a version, that is the last one now.
+    fn count_command(&mut self, alloc: Global) -> Result<(), OutOfMemory>
+        requires { self.old.commands < self.old.known }
+        ensures plan { self.new.plan ≡ self.old.plan }
+        ensures commands { OnOk result (self.new.commands ≡ self.old.commands + 1) }
+        ensures err { OnErr result (self.new ≡ self.old) }
+    {
+        // As many as the control has run, at most.
+        let _run = self.control.commands();
+        let commands = self.commands + 1;
+        if !is_made_by(&self.control, &self.ahead, commands) {
+            self.commands = commands;
+            return Ok(());
+        }
+        let indexes = self.control.indexes().copy(alloc)?;
+        let Ahead::Given(image) = mem::replace(&mut self.ahead, Ahead::Unasked) else {
+            unreachable!()
+        };
+        self.commands = commands;
+        self.image = image;
+        self.indexes = indexes;
+        Ok(())
+    }
+
+    /// The last version of the plan, all of whose commands were taken.
+    pub(crate) fn finish(self, alloc: Global) -> Result<Last, OutOfMemory>
+        requires { self.commands ≡ length self.plan.commands }
+        ensures { IfOk result (IsLast LIVE self.entry.plan) }
     {
         let Family {
+            mut control,
             commands: _,
-            rib,
-            setting,
-            mut cutter,
-            version,
-            kind,
-            rows,
+            image,
+            indexes: _,
+            ahead,
         } = self;
-        let _most = plan.len();
-        match cutter.finish() {
-            Cut::Now => Last {
-                version: version + 1,
-                routes: rib.len(),
-                kind: choose::<W>(Some(kind), setting, rib.len()),
-            },
-            Cut::Stay => Last {
-                version,
-                routes: rows.len(),
-                kind,
+        match ahead {
+            Ahead::Given(ahead) => Ok(Last::of(&ahead)),
+            Ahead::Finished => Ok(Last::of(&image)),
+            Ahead::Unasked => match control.advance(alloc)? {
+                Advance::Next(next) => Ok(Last::of(&next)),
+                Advance::Finished => Ok(Last::of(&image)),
             },
         }
     }
 }
 
-/// The setting behind a command.
-fn setting_behind<const W: u32>(setting: Setting, command: &Command<W>) -> Setting
-    requires suits { SettingSuits W setting }
-    requires module { ¬ (IsWrongModule command.now) }
-    ensures value { result ≡ set_by setting command.now }
-    ensures suits { SettingSuits W result }
-{
-    match command {
-        Command::Algo { setting } => *setting,
-        _ => setting,
+impl<const W: u32> Ahead<W> {
+    /// Whether the control was asked.
+    fn is_asked(&self) -> bool
+        ensures { result ≡ is_asked self.now }
+    {
+        match self {
+            Ahead::Unasked => false,
+            Ahead::Given(_) | Ahead::Finished => true,
+        }
     }
 }
 
-/// Whether two modules differ.
-fn is_other(kind: Kind, current: Kind) -> bool
-    ensures { result ≡ not (is_kind kind current) }
+impl Last {
+    /// The version of an image.
+    fn of<const W: u32>(image: &Image<W>) -> Last
+        ensures { result ≡ record { version = image.now.version; routes = image.now.routes; kind = kind_of image.now.engine } }
+    {
+        Last {
+            version: image.version(),
+            routes: image.routes(),
+            kind: image.kind(),
+        }
+    }
+}
+
+/// What the control gives next. Where memory is wanting its last image is as before.
+fn ask<const W: u32, const K: u64, const LIVE: u32>(
+    alloc: Global,
+    control: &mut Control<W, K, LIVE>,
+) -> Result<Ahead<W>, OutOfMemory>
+    ensures control { IsControl K LIVE control.new }
+    ensures plan { control.new.plan ≡ control.old.plan }
+    ensures further { control.old.commands ≤ control.new.commands }
+    ensures asked { IfOk result (λ ahead. is_asked ahead ≡ true) }
+    ensures ahead { IfOk result (λ ahead. (n : ℕ) → control.old.image.version ≡ version_before LIVE control.old.plan n → IsAhead LIVE control.new n ahead) }
+    ensures err { OnErr result (control.new.image ≡ control.old.image) }
 {
-    match (kind, current) {
-        (Kind::Scan, Kind::Scan) => false,
-        (Kind::Range, Kind::Range) => false,
-        (Kind::Radix, Kind::Radix) => false,
-        (Kind::Dxr, Kind::Dxr) => false,
-        _ => true,
+    match control.advance(alloc)? {
+        Advance::Next(image) => Ok(Ahead::Given(image)),
+        Advance::Finished => Ok(Ahead::Finished),
+    }
+}
+
+/// Whether the version ahead is one that the last of so many commands has made.
+fn is_made_by<const W: u32, const K: u64, const LIVE: u32>(
+    control: &Control<W, K, LIVE>,
+    ahead: &Ahead<W>,
+    commands: u32,
+) -> bool
+    ensures { result ≡ is_made_by control.now commands ahead.now }
+{
+    match ahead {
+        Ahead::Given(image) => image.count() == commands && !control.ended(),
+        Ahead::Unasked | Ahead::Finished => false,
+    }
+}
+
+/// The nexthop that an index is sent to.
+fn sent_to<const W: u32, const K: u64, const LIVE: u32>(
+    indexes: &Indexes<W, K, LIVE>,
+    index: Option<u16>,
+) -> Option<Nexthop<W>>
+    ensures { (hop : _) → IsSent (target_at indexes.now.names) index hop → result ≡ hop }
+{
+    let Some(index) = index else {
+        return None;
+    };
+    match indexes.target_of(index) {
+        Some(Target::One(nexthop)) => Some(*nexthop),
+        _ => None,
     }
 }

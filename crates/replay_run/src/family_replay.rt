@@ -1,89 +1,95 @@
-ghost use Rattle.std.specs.Prelude.{◌≡◌, ◌++◌, IfOk, IfSome, OnOk, OnErr, length, option_to_list};
+ghost use Rattle.std.specs.Prelude.{◌≡◌, ◌++◌, [], IfOk, IfSome, OnOk, OnErr, length, option_to_list};
+ghost use Rattle.std.specs.Arc.{arc_value};
 ghost use Rattle.std.specs.List.{flat_map};
 ghost use Rattle.addr_text.specs.Address.{IsFamilyWidth};
-ghost use Rattle.prefix_width.specs.Limits.{AreTargets};
+ghost use Rattle.prefix_width.specs.Limits.{AreBanks, AreTargets};
 ghost use Rattle.prefix_width.specs.Order.{hop_cmp};
 ghost use Rattle.counted_map.specs.Counts.{linked_all};
-ghost use Rattle.rib_store.specs.Answer.{answer};
 ghost use Rattle.rib_store.specs.Limits.{routes_max};
-ghost use Rattle.replay_run.specs.Family.{Follows, FlushesAtMost, WantsMemory};
-ghost use Rattle.replay_run.specs.Line.{numbered, get_text, packets_text};
-ghost use Rattle.replay_run.specs.Output.{plan_text, reply_of};
-ghost use Rattle.replay_run.specs.Replay.{HasBegun, HasRoom, HasRunLine, MayRunLine};
+ghost use Rattle.plan_cut.specs.PlanCourse.{version_before};
+ghost use Rattle.plan_cut.specs.VersionTable.{answer_at};
+ghost use Rattle.replay_run.specs.Family.{FlushesAtMost, IsNext};
+ghost use Rattle.replay_run.specs.Line.{packets_text};
+ghost use Rattle.replay_run.specs.Output.{answered, plan_text, reply_of};
+ghost use Rattle.replay_run.specs.Replay.{HasBegun, HasRoom, HasRunLine};
 
 use crate::OutOfMemory;
 use crate::family::Family;
 use crate::output::{write_fib, write_get, write_packets};
 use counted_map::CountedMap;
+use module_trait::Steps;
 use prefix_width::{Addr, Nexthop};
 use rib_store::{Plan, Reply};
 use std::alloc::Global;
+use std::sync::Arc;
+use std::sync::ledger::Ledger;
 
 /// One family of a replay under way: what its commands have left, and the packets of its gets.
 #[derive(Drop)]
-pub(crate) struct FamilyReplay<const W: u32, const LIVE: u32> {
-    pub(crate) family: Family<W, LIVE>,
+pub(crate) struct FamilyReplay<const W: u32, const K: u64, const LIVE: u32> {
+    pub(crate) family: Family<W, K, LIVE>,
     /// How many gets each nexthop was given to.
     pub(crate) packets: CountedMap<Nexthop<W>>,
 }
 
-impl<const W: u32, const LIVE: u32> FamilyReplay<W, LIVE> {
+impl<const W: u32, const K: u64, const LIVE: u32> FamilyReplay<W, K, LIVE> {
     /// Nothing was done.
-    pub(crate) fn new(alloc: Global) -> Self
-        requires { AreTargets LIVE }
-        ensures { HasBegun result }
+    pub(crate) fn begin(alloc: Global, plan: &Arc<Plan<W>>) -> Result<Self, OutOfMemory>
+        requires banks { AreBanks K }
+        requires targets { AreTargets LIVE }
+        ensures { IfOk result (HasBegun (arc_value plan.now)) }
     {
-        FamilyReplay {
-            family: Family::new(alloc),
+        Ok(FamilyReplay {
+            family: Family::begin(alloc, plan)?,
             packets: CountedMap::new(alloc),
-        }
+        })
     }
 
-    /// Runs the command of a line, if it has one in this plan, and gives its reply. Where memory is
-    /// wanting nothing is done, or the command is run and the last version is as before.
+    /// Takes the command of a line, if it has one in this plan, and gives its reply. Where memory is
+    /// wanting it is not taken.
     pub(crate) fn run_line(
         &mut self,
         alloc: Global,
-        plan: &Plan<W>,
         position: Option<u32>,
     ) -> Result<Option<Reply>, OutOfMemory>
-        requires { MayRunLine plan.now position self.old }
-        ensures run { OnOk result (HasRunLine plan.now position self.old self.new) }
-        ensures reply { IfOk result (λ reply. reply ≡ reply_of LIVE plan.now position) }
+        requires { IsNext position self.old.family.commands (length self.old.family.plan.commands) }
+        ensures run { OnOk result (HasRunLine position self.old self.new) }
+        ensures reply { IfOk result (λ reply. reply ≡ reply_of LIVE self.old.family.plan position) }
         ensures flushes { IfOk result (λ reply. IfSome reply (FlushesAtMost routes_max)) }
-        ensures err { OnErr result (WantsMemory plan.now self.old.family self.new.family) }
+        ensures err { OnErr result (self.new.family.commands ≡ self.old.family.commands) }
         ensures packets { self.new.packets ≡ self.old.packets }
     {
         if position.is_none() {
             return Ok(None);
         }
-        let reply = self.family.run(alloc, plan)?;
+        let reply = self.family.take(alloc)?;
         Ok(Some(reply))
     }
 
     /// Answers a get at the last version: appends its line, and counts its packet. Where memory is
     /// wanting no packet was counted.
-    pub(crate) fn answer_get(
+    pub(crate) fn answer_get<L: Ledger>(
         &mut self,
         alloc: Global,
         line: u32,
         addr: &Addr<W>,
         flow: u32,
+        steps: &mut Steps<L>,
         out: &mut Vec<u8>,
     ) -> Result<(), OutOfMemory>
         requires width { IsFamilyWidth W }
         requires room { HasRoom self.old.packets 1 }
         ensures family { self.new.family ≡ self.old.family }
-        ensures packets { OnOk result (self.new.packets ≡ linked_all hop_cmp self.old.packets (option_to_list (answer W self.old.family.rows addr.now flow))) }
-        ensures out { OnOk result (out.new.items ≡ out.old.items ++ numbered line (get_text W addr.now self.old.family.version (answer W self.old.family.rows addr.now flow))) }
+        ensures packets { OnOk result (self.new.packets ≡ linked_all hop_cmp self.old.packets (option_to_list (answer_at LIVE self.old.family.plan (version_before LIVE self.old.family.plan self.old.family.commands) addr.now flow))) }
+        ensures out { OnOk result (out.new.items ≡ out.old.items ++ answered LIVE self.old.family.plan (version_before LIVE self.old.family.plan self.old.family.commands) line addr.now flow) }
         ensures err { OnErr result (self.new.packets ≡ self.old.packets) }
     {
-        let nexthop = self.family.rows.answer(addr, flow);
+        let nexthop = self.family.answer(addr, flow, steps);
         write_get(
             alloc,
             line,
             addr,
-            self.family.version,
+            self.family.version(),
             nexthop.as_ref(),
             out,
         )?;
@@ -101,14 +107,13 @@ impl<const W: u32, const LIVE: u32> FamilyReplay<W, LIVE> {
         Ok(())
     }
 
-    /// Appends the line of the last version of the plan, all of whose commands were run.
-    pub(crate) fn finish(self, plan: &Plan<W>, out: &mut Vec<u8>) -> Result<(), OutOfMemory>
+    /// Appends the line of the last version of the plan, all of whose commands were taken.
+    pub(crate) fn finish(self, alloc: Global, out: &mut Vec<u8>) -> Result<(), OutOfMemory>
         requires width { IsFamilyWidth W }
-        requires follows { Follows plan.now self.family }
-        requires all { self.family.commands ≡ length plan.now.commands }
-        ensures { OnOk result (out.new.items ≡ out.old.items ++ plan_text LIVE plan.now) }
+        requires all { self.family.commands ≡ length self.family.plan.commands }
+        ensures { OnOk result (out.new.items ≡ out.old.items ++ plan_text LIVE self.entry.family.plan) }
     {
-        let last = self.family.finish(plan);
+        let last = self.family.finish(alloc)?;
         write_fib::<W>(last.version, last.routes, last.kind, out)
     }
 }

@@ -1,4 +1,5 @@
-//! The texts of the output, each appended to what was written before.
+//! The texts of the output, each appended to what was written before. Where memory is wanting, a
+//! part of a text may be there.
 ghost use Rattle.std.specs.Prelude.{◌≡◌, ◌++◌, ◌⊎◌, OnOk, decimal, codes, option_copied};
 ghost use Rattle.addr_text.specs.Address.{IsFamilyWidth};
 ghost use Rattle.replay_run.specs.Line.{numbered, reply_line, reply_text, refusal_text, get_text, link_text, nexthop_text, target_text, family_name, module_name, packets_text, version_text, fib_text};
@@ -10,8 +11,8 @@ use prefix_width::{Addr, Kind, Nexthop, NhKind};
 use rib_store::{Refusal, Reply};
 use std::alloc::Global;
 
-/// Appends the line of a reply, if it has one.
-pub(crate) fn write_reply(line: u32, reply: Reply, out: &mut Vec<u8>) -> Result<(), OutOfMemory>
+/// Appends the line of a reply to the line of this number, if the reply has one.
+pub fn write_reply(line: u32, reply: Reply, out: &mut Vec<u8>) -> Result<(), OutOfMemory>
     ensures { OnOk result (out.new.items ≡ out.old.items ++ reply_line line reply) }
 {
     match reply {
@@ -61,8 +62,9 @@ fn refusal_text(refusal: Refusal) -> &'static str
     }
 }
 
-/// Appends the line of a get: its address, the version it was answered at, and the nexthop.
-pub(crate) fn write_get<const W: u32>(
+/// Appends the line of a get on the line of this number: its address, the version that it was
+/// answered at, and the nexthop, `None` where no route matched.
+pub fn write_get<const W: u32>(
     alloc: Global,
     line: u32,
     addr: &Addr<W>,
@@ -143,7 +145,7 @@ fn push_link<const W: u32>(nexthop: &Nexthop<W>, out: &mut Vec<u8>) -> Result<()
 }
 
 /// Appends the line of a nexthop's packets.
-pub(crate) fn write_packets<const W: u32>(
+pub fn write_packets<const W: u32>(
     alloc: Global,
     count: u64,
     nexthop: &Nexthop<W>,
@@ -162,7 +164,7 @@ pub(crate) fn write_packets<const W: u32>(
 }
 
 /// Appends the line of a family's last version.
-pub(crate) fn write_fib<const W: u32>(
+pub fn write_fib<const W: u32>(
     version: u64,
     routes: u32,
     kind: Kind,

@@ -1,7 +1,5 @@
--- The lines before the place are taken.
-use Rattle.std.proofs.Common.{drop}
-use Rattle.replay_run.specs.Replay.{IsUnderWay}
+-- The reads are counted in a ledger of one part.
 use Rattle.replay_run.proofs.serial_replay.serial.Given as goal
 
-abbrev pub invariant-loop-i : goal.invariant-loop-i
-invariant-loop-i l = IsUnderWay l.script (drop l.i l.script.lines) l.replay
+abbrev pub ghosts-serial_by : goal.ghosts-serial_by
+ghosts-serial_by a = record { name = a.blank.name; parts = a.blank.parts }

@@ -1,0 +1,7 @@
+-- The lines before the place are taken.
+use Rattle.std.proofs.Common.{drop}
+use Rattle.replay_run.specs.Replay.{IsUnderWay}
+use Rattle.replay_run.proofs.serial_replay.serial_by.Given as goal
+
+abbrev pub invariant-loop-i : goal.invariant-loop-i
+invariant-loop-i g l = IsUnderWay l.script (drop l.i l.script.lines) l.replay
