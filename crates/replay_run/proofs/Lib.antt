@@ -3,3 +3,4 @@ pub mod PacketLemmas
 pub mod ReplayLemmas
 pub mod ReplyLemmas
 pub mod ShowLemmas
+pub mod SurveyLemmas

@@ -27,7 +27,7 @@ use Rattle.replay_run.specs.Family.{Followed, IsNext}
 use Rattle.replay_run.specs.Limits.{targets_max}
 use Rattle.replay_run.specs.Line.{packets_text}
 use Rattle.replay_run.specs.Output.{Get, Part, inet_of, inet6_of, answered, given, line_reply, line_text, one_reply, packets_in, plan_text, replied, reply_of, serial_output}
-use Rattle.replay_run.specs.Replay.{HasBegun, HasRoom, HasRunLine, IsPartUnderWay, IsUnderWay, in_turn}
+use Rattle.replay_run.specs.Replay.{HasBegun, HasRoom, HasRunLine, IsPartUnderWay, IsUnderWay, in_turn, lines_text}
 use Rattle.replay_run.specs.declared.family_replay.FamilyReplay.{FamilyReplay}
 use Rattle.replay_run.specs.declared.serial_replay.Replay.{Replay}
 
@@ -35,6 +35,11 @@ use Rattle.replay_run.specs.declared.serial_replay.Replay.{Replay}
 pub lines_from_place : (lines : List Line) (i : ℕ) (line : Line) → slice_get lines i ≡ Some line → drop i lines ≡ line ∷ drop (i + 1) lines
 lines_from_place lines i line e =
     drop_more lines i line (slice_get_within lines i line e) ∙ ap (λ l. l ∷ drop (i + 1) lines) (get_or_from_slice_get lines i line line e)
+
+-- the lines from a place on, where the line there is known
+pub lines_at : (script : Reading) (i : ℕ) (lines : List Line) (found line : Line) → lines ≡ script.lines → slice_get lines i ≡ Some found → found ≡ line → drop i script.lines ≡ line ∷ drop (i + 1) script.lines
+lines_at script i lines found line same here is =
+    ap (drop i) (sym same) ∙ lines_from_place lines i found here ∙ ap (λ l. l ∷ drop (i + 1) lines) is ∙ ap (λ ls. line ∷ drop (i + 1) ls) same
 
 -- ---- positions
 
@@ -79,7 +84,7 @@ counted : (before after whole : Counts Hop) (o : Option Hop) (hops : List Hop)
 counted before after whole o hops packets h =
     ap (λ counts. linked_all hop_cmp counts hops) packets ∙ linked_option before o hops ∙ h
 
-one_or_none : (b : Bool) → cond b 1 0 ≤ 1
+pub one_or_none : (b : Bool) → cond b 1 0 ≤ 1
 one_or_none true = omega arith
 one_or_none false = omega arith
 
@@ -106,7 +111,7 @@ part_on {w} {K} {live} part script line v rest before after turn h plan packets 
 }
 
 -- what a family answers behind so many commands of its plan
-answer_is : {w : ℕ} (live : ℕ) (plan same : Planned w) (n at addr flow : ℕ) → plan ≡ same → n ≡ at
+pub answer_is : {w : ℕ} (live : ℕ) (plan same : Planned w) (n at addr flow : ℕ) → plan ≡ same → n ≡ at
     → answer_at live plan (version_before live plan n) addr flow ≡ answer_at live same (version_before live same at) addr flow
 answer_is live plan same n at addr flow e f =
     ap (λ p. answer_at live p (version_before live p n) addr flow) e ∙ ap (λ k. answer_at live same (version_before live same k) addr flow) f
@@ -129,75 +134,92 @@ part_got {w} {K} {live} part script line addr flow at rest before after turn get
 -- ---- the replay goes on by a line
 
 -- the replies of both families are those of the script
-replies_are : (script : Reading) (plan : Planned 32) (plan6 : Planned 128) (inet inet6 : Option ℕ) → plan ≡ script.inet → plan6 ≡ script.inet6
+pub replies_are : (script : Reading) (plan : Planned 32) (plan6 : Planned 128) (inet inet6 : Option ℕ) → plan ≡ script.inet → plan6 ≡ script.inet6
     → one_reply (reply_of targets_max plan inet) (reply_of targets_max plan6 inet6) ≡ line_reply targets_max script inet inet6
 replies_are script plan plan6 inet inet6 e f =
     ap (λ p. one_reply (reply_of targets_max p inet) (reply_of targets_max plan6 inet6)) e ∙ ap (λ p. one_reply (reply_of targets_max script.inet inet) (reply_of targets_max p inet6)) f
 
 module _ {L : Type 0} where
-  pub after_change : (script : Reading) (number : ℕ) (inet inet6 : Option ℕ) (rest : List Line) (before after : Replay L) (reply : Option Reply)
+  pub after_change : (script : Reading) (number : ℕ) (inet inet6 : Option ℕ) (rest : List Line) (before after : Replay L)
       → IsUnderWay script (Change number inet inet6 ∷ rest) before
       → HasRunLine inet before.inet after.inet → HasRunLine inet6 before.inet6 after.inet6
-      → reply ≡ one_reply (reply_of targets_max before.inet.family.plan inet) (reply_of targets_max before.inet6.family.plan inet6)
-      → after.out.items ≡ before.out.items ++ replied number reply
       → IsUnderWay script rest after
-  after_change script number inet inet6 rest before after reply h run run6 same out =
+  after_change script number inet inet6 rest before after h run run6 =
       let line = Change number inet inet6 in
       record {
         inet = part_on (inet_of script) script line 0 rest before.inet after.inet refl h.inet run.plan run.packets;
         inet6 = part_on (inet6_of script) script line 0 rest before.inet6 after.inet6 refl h.inet6 run6.plan run6.packets;
         fits = rw (run.commands, run6.commands) h.fits.1;
-        text = written (line_text targets_max script) before.out.items after.out.items _ _ (line, 0) (in_turn targets_max script rest) out
-            (ap (replied number) (same ∙ replies_are script before.inet.family.plan before.inet6.family.plan inet inet6 h.inet.plan h.inet6.plan)) h.text;
       }
 
   pub after_quiet : (script : Reading) (number : ℕ) (inet inet6 : Option ℕ) (rest : List Line) (before after : Replay L)
       → IsUnderWay script (Quiet number inet inet6 ∷ rest) before
       → HasRunLine inet before.inet after.inet → HasRunLine inet6 before.inet6 after.inet6
-      → after.out.items ≡ before.out.items
       → IsUnderWay script rest after
-  after_quiet script number inet inet6 rest before after h run run6 out =
+  after_quiet script number inet inet6 rest before after h run run6 =
       let line = Quiet number inet inet6 in
       record {
         inet = part_on (inet_of script) script line 0 rest before.inet after.inet refl h.inet run.plan run.packets;
         inet6 = part_on (inet6_of script) script line 0 rest before.inet6 after.inet6 refl h.inet6 run6.plan run6.packets;
         fits = rw (run.commands, run6.commands) h.fits.1;
-        text = written (line_text targets_max script) before.out.items after.out.items [] _ (line, 0) (in_turn targets_max script rest) (out ∙ sym (append-nil before.out.items)) refl h.text;
       }
 
   pub after_get4 : (script : Reading) (number addr flow at : ℕ) (rest : List Line) (before after : Replay L)
       → IsUnderWay script (Get4 number addr flow at ∷ rest) before
       → after.inet6 ≡ before.inet6 → after.inet.family ≡ before.inet.family
       → after.inet.packets ≡ linked_all hop_cmp before.inet.packets (option_to_list (answer_at targets_max before.inet.family.plan (version_before targets_max before.inet.family.plan before.inet.family.commands) addr flow))
-      → after.out.items ≡ before.out.items ++ answered targets_max before.inet.family.plan (version_before targets_max before.inet.family.plan before.inet.family.commands) number addr flow
       → IsUnderWay script rest after
-  after_get4 script number addr flow at rest before after h other family packets out =
+  after_get4 script number addr flow at rest before after h other family packets =
       let line = Get4 number addr flow at in
       let here : before.inet.family.commands ≡ at = sym h.fits.0 in
       record {
         inet = part_got (inet_of script) script line addr flow at rest before.inet after.inet refl refl h.inet here family packets;
         inet6 = part_on (inet6_of script) script line (version_before targets_max script.inet at) rest before.inet6 after.inet6 refl h.inet6 (rw other refl) (rw other refl);
         fits = rw (family, other) h.fits.1;
-        text = written (line_text targets_max script) before.out.items after.out.items _ _ (line, version_before targets_max script.inet at) (in_turn targets_max script rest) out
-            (line_is targets_max before.inet.family.plan script.inet before.inet.family.commands at number addr flow h.inet.plan here) h.text;
       }
 
   pub after_get6 : (script : Reading) (number addr flow at : ℕ) (rest : List Line) (before after : Replay L)
       → IsUnderWay script (Get6 number addr flow at ∷ rest) before
       → after.inet ≡ before.inet → after.inet6.family ≡ before.inet6.family
       → after.inet6.packets ≡ linked_all hop_cmp before.inet6.packets (option_to_list (answer_at targets_max before.inet6.family.plan (version_before targets_max before.inet6.family.plan before.inet6.family.commands) addr flow))
-      → after.out.items ≡ before.out.items ++ answered targets_max before.inet6.family.plan (version_before targets_max before.inet6.family.plan before.inet6.family.commands) number addr flow
       → IsUnderWay script rest after
-  after_get6 script number addr flow at rest before after h other family packets out =
+  after_get6 script number addr flow at rest before after h other family packets =
       let line = Get6 number addr flow at in
       let here : before.inet6.family.commands ≡ at = sym h.fits.0 in
       record {
         inet = part_on (inet_of script) script line (version_before targets_max script.inet6 at) rest before.inet after.inet refl h.inet (rw other refl) (rw other refl);
         inet6 = part_got (inet6_of script) script line addr flow at rest before.inet6 after.inet6 refl refl h.inet6 here family packets;
         fits = rw (other, family) h.fits.1;
-        text = written (line_text targets_max script) before.out.items after.out.items _ _ (line, version_before targets_max script.inet6 at) (in_turn targets_max script rest) out
-            (line_is targets_max before.inet6.family.plan script.inet6 before.inet6.family.commands at number addr flow h.inet6.plan here) h.text;
       }
+
+-- ---- what is written for a line
+
+module _ {L : Type 0} (script : Reading) (rest : List Line) (before : Replay L) (out new : List ℕ) where
+  pub text_change : (number : ℕ) (inet inet6 : Option ℕ) (reply : Option Reply) → IsUnderWay script (Change number inet inet6 ∷ rest) before
+      → reply ≡ one_reply (reply_of targets_max before.inet.family.plan inet) (reply_of targets_max before.inet6.family.plan inet6)
+      → new ≡ out ++ replied number reply
+      → new ++ lines_text script rest ≡ out ++ lines_text script (Change number inet inet6 ∷ rest)
+  text_change number inet inet6 reply h same told =
+      written (line_text targets_max script) out new _ _ (Change number inet inet6, 0) (in_turn targets_max script rest) told
+      (ap (replied number) (same ∙ replies_are script before.inet.family.plan before.inet6.family.plan inet inet6 h.inet.plan h.inet6.plan)) refl
+
+  pub text_quiet : (number : ℕ) (inet inet6 : Option ℕ) → new ≡ out → new ++ lines_text script rest ≡ out ++ lines_text script (Quiet number inet inet6 ∷ rest)
+  text_quiet number inet inet6 same =
+      written (line_text targets_max script) out new [] _ (Quiet number inet inet6, 0) (in_turn targets_max script rest) (same ∙ sym (append-nil out)) refl refl
+
+  pub text_get4 : (number addr flow at : ℕ) → IsUnderWay script (Get4 number addr flow at ∷ rest) before
+      → new ≡ out ++ answered targets_max before.inet.family.plan (version_before targets_max before.inet.family.plan before.inet.family.commands) number addr flow
+      → new ++ lines_text script rest ≡ out ++ lines_text script (Get4 number addr flow at ∷ rest)
+  text_get4 number addr flow at h told =
+      written (line_text targets_max script) out new _ _ (Get4 number addr flow at, version_before targets_max script.inet at) (in_turn targets_max script rest) told
+      (line_is targets_max before.inet.family.plan script.inet before.inet.family.commands at number addr flow h.inet.plan (sym h.fits.0)) refl
+
+  pub text_get6 : (number addr flow at : ℕ) → IsUnderWay script (Get6 number addr flow at ∷ rest) before
+      → new ≡ out ++ answered targets_max before.inet6.family.plan (version_before targets_max before.inet6.family.plan before.inet6.family.commands) number addr flow
+      → new ++ lines_text script rest ≡ out ++ lines_text script (Get6 number addr flow at ∷ rest)
+  text_get6 number addr flow at h told =
+      written (line_text targets_max script) out new _ _ (Get6 number addr flow at, version_before targets_max script.inet6 at) (in_turn targets_max script rest) told
+      (line_is targets_max before.inet6.family.plan script.inet6 before.inet6.family.commands at number addr flow h.inet6.plan (sym h.fits.0)) refl
 
 -- ---- the beginning and the end
 
@@ -212,20 +234,18 @@ part_first part script replay few new = record {
   room = rw new.packets (record { counts = no_counts; each = λ q. omega (arith, few); all = omega (arith, few) });
 }
 
-pub at_first : {L : Type 0} (script : Reading) (replay : Replay L) → IsScript script → HasBegun script.inet replay.inet → HasBegun script.inet6 replay.inet6 → replay.out.items ≡ [] → IsUnderWay script script.lines replay
-at_first script replay facts new new6 out = record {
+pub at_first : {L : Type 0} (script : Reading) (replay : Replay L) → IsScript script → HasBegun script.inet replay.inet → HasBegun script.inet6 replay.inet6 → IsUnderWay script script.lines replay
+at_first script replay facts new new6 = record {
   inet = part_first (inet_of script) script replay.inet facts.few new;
   inet6 = part_first (inet6_of script) script replay.inet6 facts.few new6;
   fits = rw (new.commands, new6.commands) facts.fits;
-  text = rw out refl;
 }
 
 -- what is written behind the last line ends the output
-pub at_last : {L : Type 0} (script : Reading) (replay : Replay L) (first second third out : List ℕ) → IsUnderWay script [] replay
-    → first ≡ replay.out.items ++ flat_map (packets_text 32) replay.inet.packets → second ≡ first ++ flat_map (packets_text 128) replay.inet6.packets
-    → third ≡ second ++ plan_text targets_max replay.inet.family.plan → out ≡ third ++ plan_text targets_max replay.inet6.family.plan → out ≡ serial_output targets_max script
-at_last script replay first second third out h a b c d =
-    let text : replay.out.items ≡ flat_map (line_text targets_max script) (in_turn targets_max script script.lines) = sym (append-nil replay.out.items) ∙ h.text in
+pub at_last : {L : Type 0} (script : Reading) (replay : Replay L) (lines first second out : List ℕ) → IsUnderWay script [] replay → lines ≡ lines_text script script.lines
+    → first ≡ lines ++ flat_map (packets_text 32) replay.inet.packets → second ≡ first ++ flat_map (packets_text 128) replay.inet6.packets
+    → out ≡ (second ++ plan_text targets_max replay.inet.family.plan) ++ plan_text targets_max replay.inet6.family.plan → out ≡ serial_output targets_max script
+at_last script replay lines first second out h text a b c =
     let packets : replay.inet.packets ≡ packets_in targets_max (inet_of script) (in_turn targets_max script script.lines) = h.inet.packets in
     let packets6 : replay.inet6.packets ≡ packets_in targets_max (inet6_of script) (in_turn targets_max script script.lines) = h.inet6.packets in
-    simp (d, c, b, a, text, packets, packets6, h.inet.plan, h.inet6.plan, append_assoc)
+    simp (c, b, a, text, packets, packets6, h.inet.plan, h.inet6.plan, append_assoc)

@@ -4,4 +4,6 @@ pub mod Line
 pub mod Output
 pub mod Packets
 pub mod Replay
+pub mod Survey
+pub mod Surveying
 pub mod Text

@@ -1,5 +1,5 @@
 -- A replay under way: what is done, joined with what the rest of the lines gives, is the whole.
-use Rattle.std.specs.Prelude.{◌≡◌, ℕ, ◌+◌, ◌≤◌, List, [], Option, ◌++◌, length}
+use Rattle.std.specs.Prelude.{◌≡◌, ℕ, ◌+◌, ◌≤◌, List, [], Option, length}
 use Rattle.std.specs.List.{flat_map, filter_map}
 use Rattle.prefix_width.specs.Nexthop.{Hop}
 use Rattle.prefix_width.specs.Order.{hop_cmp}
@@ -55,4 +55,7 @@ pub record IsUnderWay {L : Type 0} (script : Reading) (rest : List Line) (replay
   pub inet : IsPartUnderWay (inet_of script) script rest replay.inet
   pub inet6 : IsPartUnderWay (inet6_of script) script rest replay.inet6
   pub fits : Fits script.inet script.inet6 (commands_run replay) rest
-  pub text : replay.out.items ++ flat_map (line_text targets_max script) (in_turn targets_max script rest) ≡ flat_map (line_text targets_max script) (in_turn targets_max script script.lines)
+
+-- what is written for lines of a script
+abbrev pub lines_text : Reading → List Line → List ℕ
+lines_text script lines = flat_map (line_text targets_max script) (in_turn targets_max script lines)

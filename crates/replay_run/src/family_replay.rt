@@ -1,4 +1,4 @@
-ghost use Rattle.std.specs.Prelude.{◌≡◌, ◌++◌, [], IfOk, IfSome, OnOk, OnErr, length, option_to_list};
+ghost use Rattle.std.specs.Prelude.{◌≡◌, ◌++◌, [], IfOk, IfSome, OnOk, OnErr, is_some, length, option_to_list};
 ghost use Rattle.std.specs.Arc.{arc_value};
 ghost use Rattle.std.specs.List.{flat_map};
 ghost use Rattle.addr_text.specs.Address.{IsFamilyWidth};
@@ -94,6 +94,26 @@ impl<const W: u32, const K: u64, const LIVE: u32> FamilyReplay<W, K, LIVE> {
             out,
         )?;
         count_packet(&mut self.packets, nexthop)
+    }
+
+    /// Counts the packet of a get at the last version, and says whether it has a nexthop. Where memory
+    /// is wanting none was counted.
+    pub(crate) fn count_get<L: Ledger>(
+        &mut self,
+        addr: &Addr<W>,
+        flow: u32,
+        steps: &mut Steps<L>,
+    ) -> Result<bool, OutOfMemory>
+        requires room { HasRoom self.old.packets 1 }
+        ensures family { self.new.family ≡ self.old.family }
+        ensures packets { OnOk result (self.new.packets ≡ linked_all hop_cmp self.old.packets (option_to_list (answer_at LIVE self.old.family.plan (version_before LIVE self.old.family.plan self.old.family.commands) addr.now flow))) }
+        ensures answered { IfOk result (λ answered. answered ≡ is_some (answer_at LIVE self.old.family.plan (version_before LIVE self.old.family.plan self.old.family.commands) addr.now flow)) }
+        ensures err { OnErr result (self.new.packets ≡ self.old.packets) }
+    {
+        let found = self.family.answer(addr, flow, steps);
+        let answered = found.is_some();
+        count_packet(&mut self.packets, found)?;
+        Ok(answered)
     }
 
     /// Appends the line of each nexthop's packets, in nexthop order.

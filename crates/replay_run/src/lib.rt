@@ -18,6 +18,7 @@ mod laws;
 mod output;
 mod replies;
 mod serial_replay;
+mod survey;
 mod text;
 
 pub use gate::{Gate, OpenGate};
@@ -26,6 +27,7 @@ pub use output::{write_fib, write_get, write_packets, write_reply};
 pub use replies::{one_reply, write_one_reply};
 pub use serial_replay::serial;
 pub use std::alloc::AllocError as OutOfMemory;
+pub use survey::gen_text;
 pub use text::{check_text, show_text};
 
 #[cfg(test)]

@@ -1,5 +1,5 @@
 use crate::output::{write_fib, write_reply};
-use crate::{check_text, serial, show_text};
+use crate::{check_text, gen_text, serial, show_text};
 use prefix_width::Kind;
 use rib_store::{Refusal, Reply};
 use route_lang::read_script;
@@ -79,5 +79,45 @@ fn replies_and_modules_are_spelled_as_written_here(rt: HostRuntime) -> Result<()
         write_fib::<32>(1, 2, kind, &mut out)?;
         assert_eq!(rt; out.as_slice(), text.as_bytes());
     }
+    Ok(())
+}
+
+// The numbers are those of a plain program of its own, bench/gen.
+#[test]
+fn generated_scripts_come_to_these_numbers(rt: HostRuntime) -> Result<(), Fail> {
+    let alloc = rt.alloc();
+    assert_eq!(rt;
+        gen_text(alloc, 0, 1)?.as_slice(),
+        b"\
+gen seed 0 count 1
+changes 0 refused 0
+gets 1 answered 0
+fib inet version 0 routes 0 algo range
+fib inet6 version 0 routes 0 algo range
+"
+            .as_slice()
+    );
+    assert_eq!(rt;
+        gen_text(alloc, 1, 1_000)?.as_slice(),
+        b"\
+gen seed 1 count 1000
+changes 519 refused 112
+gets 302 answered 267
+fib inet version 311 routes 410 algo radix
+fib inet6 version 0 routes 0 algo range
+"
+            .as_slice()
+    );
+    assert_eq!(rt;
+        gen_text(alloc, 7, 20_000)?.as_slice(),
+        b"\
+gen seed 7 count 20000
+changes 9658 refused 2883
+gets 6218 answered 6178
+fib inet version 5942 routes 3272 algo dxr
+fib inet6 version 0 routes 0 algo range
+"
+            .as_slice()
+    );
     Ok(())
 }

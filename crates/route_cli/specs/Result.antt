@@ -1,31 +1,51 @@
 -- The result of a job on the bytes that were read.
-use Rattle.std.specs.Prelude.{◌≡◌, ℕ, List, length, Result, Ok, Err}
+use Rattle.std.specs.Prelude.{◌≡◌, ℕ, ◌≤◌, Bool, true, false, List, length, Result, Ok, Err}
 use Rattle.route_lang.specs.declared.fault.LineFault.{LineFault}
 use Rattle.route_lang.specs.declared.fault.ScriptError.{ScriptError}
 use Rattle.route_lang.specs.declared.fault.ScriptError.TheVariants as script_error
+use Rattle.route_lang.specs.Limits.{lines_limit}
 use Rattle.route_lang.specs.Script.{Reading, script_of}
 use Rattle.route_lang.specs.Spelling.{spelled}
 use Rattle.route_lang.specs.Text.{lines_of}
 use Rattle.replay_run.specs.Limits.{targets_max}
 use Rattle.replay_run.specs.Output.{serial_output}
+use Rattle.replay_run.specs.Survey.{generated_text}
 use Rattle.replay_run.specs.Text.{checked_text}
 use Rattle.route_cli.specs.declared.job.Job.{Job}
-use Rattle.route_cli.specs.declared.job.Job.TheVariants.{Replay, Check, Show}
+use Rattle.route_cli.specs.declared.job.Job.TheVariants.{Replay, Check, Show, Gen}
 
 -- what a job makes of a script whose text has so many lines
 abbrev pub text_of : Job → ℕ → Reading → List ℕ
 text_of Replay lines script = serial_output targets_max script
 text_of Check lines script = checked_text script lines
 text_of Show lines script = spelled script
+text_of (Gen seed count) lines script = generated_text seed count
 
 -- the text of a script, or its fault
 abbrev pub text_or_fault : Job → ℕ → Result Reading LineFault → Result (List ℕ) LineFault
 text_or_fault job lines (Ok script) = Ok (text_of job lines script)
 text_or_fault job lines (Err fault) = Err fault
 
--- what the job makes of the bytes: a text, or the first line that is refused
+-- what the job makes of the bytes: a text, or the first line that is refused; the generator makes its text of none
 abbrev pub result_of : Job → List ℕ → Result (List ℕ) LineFault
-result_of job bytes = text_or_fault job (length (lines_of bytes)) (script_of bytes)
+result_of Replay bytes = text_or_fault Replay (length (lines_of bytes)) (script_of bytes)
+result_of Check bytes = text_or_fault Check (length (lines_of bytes)) (script_of bytes)
+result_of Show bytes = text_or_fault Show (length (lines_of bytes)) (script_of bytes)
+result_of (Gen seed count) bytes = Ok (generated_text seed count)
+
+-- whether a job reads a source
+abbrev pub is_read : Job → Bool
+is_read Replay = true
+is_read Check = true
+is_read Show = true
+is_read (Gen seed count) = false
+
+-- a generated script has a line and is within the limit
+abbrev pub FitsJob : Job → Type 0
+FitsJob Replay = Unit {0}
+FitsJob Check = Unit {0}
+FitsJob Show = Unit {0}
+FitsJob (Gen seed count) = (1 ≤ count) × (count ≤ lines_limit)
 
 module _ {V : Type 0} (bytes_of : V → List ℕ) where
   -- what is answered is the result, with its text seen as bytes, unless memory is wanting

@@ -1,4 +1,7 @@
 ghost use Rattle.std.specs.Prelude.{◌≡◌};
+ghost use Rattle.command_line.specs.Words.{IsBetween};
+ghost use Rattle.route_cli.specs.Cause.{IfJob};
+ghost use Rattle.route_cli.specs.Result.{FitsJob};
 ghost use Rattle.route_cli.specs.Words.{task_in};
 
 use command_line::{Mode, Request};
@@ -12,6 +15,9 @@ pub enum Job {
     Check,
     /// Writes the script in its canonical spelling.
     Show,
+    /// Generates a script of `count` lines, 1 to 1,048,576, from a seed, replays it on one thread, and
+    /// writes what it comes to. It reads no source.
+    Gen { seed: u32, count: u32 },
 }
 
 /// What the words ask of the program.
@@ -28,14 +34,33 @@ pub enum Task {
 impl Task {
     /// What a request asks.
     pub(crate) fn of(request: &Request) -> Task
-        ensures { result ≡ task_in request.now.mode request.now.workers }
+        requires { IsBetween 1 1048576 request.now.count }
+        ensures task { result ≡ task_in request.now.mode request.now }
+        ensures fits { IfJob result FitsJob }
     {
         match (request.mode, request.workers) {
             (Mode::Replay, None) => Task::Does(Job::Replay),
             (Mode::Replay, Some(_)) => Task::NotBuilt,
             (Mode::Check, _) => Task::Does(Job::Check),
             (Mode::Show, _) => Task::Does(Job::Show),
-            (Mode::Gen, _) => Task::NotBuilt,
+            (Mode::Gen, _) => Task::Does(Job::Gen {
+                seed: request.seed,
+                count: request.count,
+            }),
+        }
+    }
+}
+
+impl Job {
+    ghost use Rattle.route_cli.specs.Result.{is_read};
+
+    /// Whether it reads a source.
+    pub(crate) fn is_read(&self) -> bool
+        ensures { result ≡ is_read self.now }
+    {
+        match self {
+            Job::Replay | Job::Check | Job::Show => true,
+            Job::Gen { .. } => false,
         }
     }
 }

@@ -1,4 +1,6 @@
 //! Worked examples: scripts, and all that is written of each or the fault that refuses it.
+ghost use Rattle.route_cli.specs.Result.{FitsJob};
+
 use crate::{Job, Status, plain};
 use outside_io::{MemSink, MemSource};
 use route_lang::Reason;
@@ -259,7 +261,9 @@ const REFUSED: [(&str, u32, Reason); 14] = [
 ];
 
 /// How a job ends, and what it has written then.
-fn ended(alloc: Global, job: Job, script: &[u8], room: usize) -> Result<(Status, MemSink), Fail> {
+fn ended(alloc: Global, job: Job, script: &[u8], room: usize) -> Result<(Status, MemSink), Fail>
+    requires { FitsJob job }
+{
     let bytes = Vec::from_slice(alloc, script)?;
     let mut source = MemSource::new(bytes, 4096, Vec::new(alloc));
     let mut sink = MemSink::new(alloc, room, 4096, Vec::new(alloc))?;
@@ -270,15 +274,15 @@ fn ended(alloc: Global, job: Job, script: &[u8], room: usize) -> Result<(Status,
 #[test]
 fn worked_scripts_are_replayed_checked_and_refused(rt: HostRuntime) -> Result<(), Fail> {
     let alloc = rt.alloc();
-    for (job, rows) in [
-        (Job::Replay, WHOLE.as_slice()),
-        (Job::Check, CHECKED.as_slice()),
-    ] {
-        for (script, output) in rows {
-            let (status, sink) = ended(alloc, job, script.as_bytes(), 2000)?;
-            assert_eq!(rt; status, Status::Ok, "of {script}");
-            assert_eq!(rt; sink.bytes(), output.as_bytes(), "of {script}");
-        }
+    for (script, output) in WHOLE {
+        let (status, sink) = ended(alloc, Job::Replay, script.as_bytes(), 2000)?;
+        assert_eq!(rt; status, Status::Ok, "of {script}");
+        assert_eq!(rt; sink.bytes(), output.as_bytes(), "of {script}");
+    }
+    for (script, output) in CHECKED {
+        let (status, sink) = ended(alloc, Job::Check, script.as_bytes(), 2000)?;
+        assert_eq!(rt; status, Status::Ok, "of {script}");
+        assert_eq!(rt; sink.bytes(), output.as_bytes(), "of {script}");
     }
     for (script, line, reason) in REFUSED {
         let (status, sink) = ended(alloc, Job::Replay, script.as_bytes(), 2000)?;

@@ -152,7 +152,16 @@ fib inet6 version 0 routes 0 algo range
 
 const NOT_TAKEN: [&str; 5] = ["", "play", "Replay", "replay replay", "replay --workers 65"];
 
-const NOT_BUILT: [&str; 3] = ["gen", "gen --count 1", "replay --workers 2"];
+const NOT_BUILT: [&str; 1] = ["replay --workers 2"];
+
+// The first number that is drawn asks for a get over the empty table.
+const GENERATED_LINE: &str = "\
+gen seed 0 count 1
+changes 0 refused 0
+gets 1 answered 0
+fib inet version 0 routes 0 algo range
+fib inet6 version 0 routes 0 algo range
+";
 
 fn words(alloc: Global, line: &str) -> Result<Vec<String>, Fail> {
     let mut words = Vec::new(alloc);
@@ -189,26 +198,28 @@ fn scripts_are_replayed(rt: HostRuntime) -> Result<(), Fail> {
 }
 
 #[test]
-fn scripts_are_checked_and_shown(rt: HostRuntime) -> Result<(), Fail> {
+fn scripts_are_checked_shown_and_generated(rt: HostRuntime) -> Result<(), Fail> {
     let alloc = rt.alloc();
-    for (job, script, output) in [
-        (Job::Check, "", "ok 0 lines 0 commands\n"),
-        (Job::Check, EDGE_ROUTER, "ok 12 lines 11 commands\n"),
-        (Job::Show, "", ""),
+    for (line, script, output) in [
+        ("check", "", "ok 0 lines 0 commands\n"),
+        ("check", EDGE_ROUTER, "ok 12 lines 11 commands\n"),
+        ("gen --seed 0 --count 1", "no script", GENERATED_LINE),
+        ("show", "", ""),
         (
-            Job::Show,
+            "show",
             "route add -net 10.9.0.1/16 192.0.2.1 -weight 1\n",
             "add -inet 10.9.0.0/16 192.0.2.1\n",
         ),
         (
-            Job::Show,
+            "show",
             "# an address in full\nget  -inet6 0:0:0:0:0:0:0:1  flow 0",
             "get -inet6 ::1\n",
         ),
     ] {
+        let words = words(alloc, line)?;
         let mut source = source(alloc, script, &[])?;
         let mut sink = MemSink::new(alloc, 1000, 10, Vec::new(alloc))?;
-        let ended = plain(alloc, job, &mut source, &mut sink);
+        let ended = run(&rt, words.as_slice(), &mut source, &mut sink, &OpenGate);
         assert_eq!(rt; ended, Status::Ok, "of {script}");
         assert_eq!(rt; sink.bytes(), output.as_bytes(), "of {script}");
     }

@@ -1,10 +1,10 @@
-ghost use Rattle.std.specs.Prelude.{◌≡◌, ◌≢◌, ◌≤◌, IfOk, length, map, string_bytes};
+ghost use Rattle.std.specs.Prelude.{◌≡◌, ◌≢◌, ◌≤◌, ◌⊎◌, true, false, IfOk, IsErrOf, length, map, string_bytes};
 ghost use Rattle.outside_io.specs.Faults.{Rose};
-ghost use Rattle.outside_io.specs.Whole.{ReadsWithin};
+ghost use Rattle.outside_io.specs.Whole.{ReadsPast, ReadsWithin};
 ghost use Rattle.route_lang.specs.Limits.{input_limit};
 ghost use Rattle.route_cli.specs.Words.{task_of};
-ghost use Rattle.route_cli.specs.Result.{result_of, GivesResultBy};
-ghost use Rattle.route_cli.specs.Cause.{Answered, Interrupted, Refuses, IsComplete, OfJob, RefusesTask, IsTaskComplete};
+ghost use Rattle.route_cli.specs.Result.{FitsJob, GivesResultBy, is_read, result_of};
+ghost use Rattle.route_cli.specs.Cause.{Answered, IfJob, Interrupted, IsComplete, IsTaskComplete, OfJob, Reads, Refuses, RefusesTask};
 ghost use Rattle.route_cli.specs.declared.job.Task.TheVariants.{NotTaken};
 
 use crate::OutOfMemory;
@@ -12,7 +12,7 @@ use crate::job::{Job, Task};
 use crate::status::Status;
 use command_line::{WordsError, read_words};
 use outside_io::{ReadError, Sink, Source, read_all, write_all};
-use replay_run::{Gate, check_text, serial, show_text};
+use replay_run::{Gate, check_text, gen_text, serial, show_text};
 use route_lang::{INPUT_MAX, Reason, ScriptError, line_count, read_script};
 use std::alloc::Global;
 
@@ -26,9 +26,10 @@ pub fn run<R: AllocGlobal, S: Source, K: Sink, G: Gate + Sync>(
     sink: &mut K,
     _gate: &G,
 ) -> Status
-    // Words that are not taken: nothing is read or written.
+    // Words that are not taken, and a job that reads nothing: nothing is read. Of the former nothing is
+    // written.
     ensures usage { result ≡ Status.Usage → task_of (map string_bytes words.now) ≡ NotTaken }
-    ensures reads_for_a_job { ¬ (OfJob (task_of (map string_bytes words.now)) (λ _. Unit {0})) → source.new ≡ source.old }
+    ensures reads_for_a_job { ¬ (OfJob (task_of (map string_bytes words.now)) (λ job. is_read job ≡ true)) → source.new ≡ source.old }
 
     // The whole result of the bytes that were read.
     ensures ok { result ≡ Status.Ok → OfJob (task_of (map string_bytes words.now)) (λ job. Answered job (S.left source.old) (S.left source.new) (K.written sink.old) (K.written sink.new)) }
@@ -61,7 +62,8 @@ pub fn run<R: AllocGlobal, S: Source, K: Sink, G: Gate + Sync>(
 
 /// What the words ask.
 fn read_task(alloc: Global, words: &[String]) -> Result<Task, OutOfMemory>
-    ensures { IfOk result (λ task. task ≡ task_of (map string_bytes words.now)) }
+    ensures task { IfOk result (λ task. task ≡ task_of (map string_bytes words.now)) }
+    ensures fits { IfOk result (λ task. IfJob task FitsJob) }
 {
     match read_words(alloc, words) {
         Ok(request) => Ok(Task::of(&request)),
@@ -70,10 +72,12 @@ fn read_task(alloc: Global, words: &[String]) -> Result<Task, OutOfMemory>
     }
 }
 
-/// Does a job that waits for nobody: reads the source to its end, and writes the result of its
-/// bytes to the sink. It always returns.
+/// Does a job that waits for nobody: reads the source to its end, unless the job reads nothing, and
+/// writes the result of its bytes to the sink. It always returns.
 pub fn plain<S: Source, K: Sink>(alloc: Global, job: Job, source: &mut S, sink: &mut K) -> Status
+    requires { FitsJob job }
     ensures no_usage { result ≢ Status.Usage }
+    ensures unread { is_read job ≡ false → source.new ≡ source.old }
 
     // The whole result of the bytes that were read.
     ensures ok { result ≡ Status.Ok → Answered job (S.left source.old) (S.left source.new) (K.written sink.old) (K.written sink.new) }
@@ -103,7 +107,9 @@ fn read_and_write<S: Source, K: Sink>(
     source: &mut S,
     sink: &mut K,
 ) -> Status
+    requires { FitsJob job }
     ensures no_usage { result ≢ Status.Usage }
+    ensures unread { is_read job ≡ false → source.new ≡ source.old }
     ensures ok { result ≡ Status.Ok → Answered job (S.left source.old) (S.left source.new) (K.written sink.old) (K.written sink.new) }
     ensures read { result ≡ Status.ReadFault → Rose (S.faults source.old) (S.faults source.new) }
     ensures refused { (line : _) (reason : _) → result ≡ Status.ScriptRefused line reason → Refuses job (S.left source.old) (S.left source.new) line reason }
@@ -114,7 +120,7 @@ fn read_and_write<S: Source, K: Sink>(
     ensures source_later { S.faults source.old ≤ S.faults source.new }
     ensures sink_later { K.faults sink.old ≤ K.faults sink.new }
 {
-    let bytes = match read_all(alloc, source, INPUT_MAX) {
+    let bytes = match read_for(alloc, job, source) {
         Ok(bytes) => bytes,
         Err(ReadError::Failed) => return Status::ReadFault,
         Err(ReadError::TooLarge) => return Status::ScriptRefused {
@@ -137,16 +143,42 @@ fn read_and_write<S: Source, K: Sink>(
     }
 }
 
+/// The bytes that a job reads: all of the source, none for the generator.
+fn read_for<S: Source>(alloc: Global, job: Job, source: &mut S) -> Result<Vec<u8>, ReadError>
+    ensures reads { IfOk result (λ bytes. Reads job (S.left source.old) (S.left source.new) bytes.items) }
+    ensures few { IfOk result (λ bytes. length bytes.items ≤ input_limit) }
+    ensures unread { is_read job ≡ false → source.new ≡ source.old }
+    ensures too_large { IsErrOf result ReadError.TooLarge → ReadsPast input_limit (S.left source.old) (S.left source.new) × (is_read job ≡ true) }
+    ensures failed { IsErrOf result ReadError.Failed → Rose (S.faults source.old) (S.faults source.new) }
+    ensures within { IsErrOf result ReadError.TooLarge ⊎ ReadsWithin input_limit (S.left source.old) (S.left source.new) }
+    ensures later { S.faults source.old ≤ S.faults source.new }
+{
+    if job.is_read() {
+        read_all(alloc, source, INPUT_MAX)
+    } else {
+        Ok(Vec::new(alloc))
+    }
+}
+
 /// What the job makes of the bytes.
 fn result_text(alloc: Global, job: Job, bytes: &[u8]) -> Result<Vec<u8>, ScriptError>
-    requires { length bytes.now ≤ input_limit }
+    requires fits { FitsJob job }
+    requires few { length bytes.now ≤ input_limit }
     ensures { GivesResultBy (λ text. text.items) result (result_of job bytes.now) }
 {
-    let script = read_script(alloc, bytes)?;
-    let text = match job {
-        Job::Replay => serial(alloc, &script),
-        Job::Check => check_text(alloc, &script, line_count(bytes) as u32),
-        Job::Show => show_text(alloc, &script),
-    }?;
-    Ok(text)
+    match job {
+        Job::Replay => {
+            let script = read_script(alloc, bytes)?;
+            Ok(serial(alloc, &script)?)
+        }
+        Job::Check => {
+            let script = read_script(alloc, bytes)?;
+            Ok(check_text(alloc, &script, line_count(bytes) as u32)?)
+        }
+        Job::Show => {
+            let script = read_script(alloc, bytes)?;
+            Ok(show_text(alloc, &script)?)
+        }
+        Job::Gen { seed, count } => Ok(gen_text(alloc, seed, count)?),
+    }
 }

@@ -129,7 +129,8 @@ pub family_bounds : (w : ℕ) → IsFamilyWidth w → (1 ≤ w) × (w ≤ 128)
 family_bounds w (inl e) = (omega arith, omega arith)
 family_bounds w (inr e) = (omega arith, omega arith)
 
-masked_fits : (w a len : ℕ) → IsFamilyWidth w → a < 2 ^ w → len ≤ w → IsBlock w (masked_block w a len)
+-- the prefix of an address and a length
+pub masked_fits : (w a len : ℕ) → IsFamilyWidth w → a < 2 ^ w → len ≤ w → IsBlock w (masked_block w a len)
 masked_fits w a len family fits inside =
     let bounds = family_bounds w family in
     let base = div-mul-le_self a (2 ^ (w - len)) in

@@ -67,7 +67,7 @@ then_rises below number false inet inet6 lines more rises = (more, rises)
 
 -- ---- every script of the grammar
 
-abbrev lengths : Plans → Positions
+abbrev pub lengths : Plans → Positions
 lengths plans = record { inet = length plans.inet.commands; inet6 = length plans.inet6.commands }
 
 -- what the lines from a number on give, behind these plans
@@ -80,12 +80,25 @@ pub record Follows (at : ℕ) (plans : Plans) (script : Reading) : Type 0 where
   pub rises : (below : ℕ) → below < at → Rises below script.lines
   pub fits : Fits script.inet script.inet6 (lengths plans) script.lines
 
+-- where no line is left
+pub none_follow : (at : ℕ) (plans : Plans) → Follows at plans (record { inet = plans.inet; inet6 = plans.inet6; lines = [] })
+none_follow at plans = record {
+  more = [];
+  more6 = [];
+  inet = sym (append-nil plans.inet.commands);
+  inet6 = sym (append-nil plans.inet6.commands);
+  few = omega arith;
+  rises = λ below h. tt;
+  fits = (refl, refl);
+}
+
 -- the same of an answer that is a script
 abbrev IfFollows : ℕ → Plans → Result Reading LineFault → Type 0
 IfFollows at plans (Ok script) = Follows at plans script
 IfFollows at plans (Err fault) = Unit {0}
 
-behind_line : (at : ℕ) (plans : Plans) (asked : Asked) (more : Reading) → IsAskedAt at asked → Follows (at + 1) (plans_behind plans asked) more → Follows at plans (record more { lines = entries_of at plans asked ++ more.lines })
+-- a line before those that follow it
+pub behind_line : (at : ℕ) (plans : Plans) (asked : Asked) (more : Reading) → IsAskedAt at asked → Follows (at + 1) (plans_behind plans asked) more → Follows at plans (record more { lines = entries_of at plans asked ++ more.lines })
 behind_line at plans Nothing more is r =
     record { more = r.more; more6 = r.more6; inet = r.inet; inet6 = r.inet6; few = omega (arith, r.few); rises = λ below h. r.rises below (omega arith); fits = r.fits }
 behind_line at plans (Inet c) more is r =
@@ -145,17 +158,17 @@ behind_answer at plans (Ok asked) below script is later e = below_line (below (p
     below_line (Ok more) later e = subst (λ (o : Result Reading LineFault). IfFollows at plans o) e (behind_line at plans asked more is (later more refl))
 
 pub lines_follow : (at : ℕ) (plans : Plans) (texts : List (List ℕ)) (script : Reading) → lines_from at plans texts ≡ Ok script → Follows at plans script
-lines_follow at plans [] script e =
-    subst (λ (o : Result Reading LineFault). IfFollows at plans o) e
-    (record { more = []; more6 = []; inet = sym (append-nil plans.inet.commands); inet6 = sym (append-nil plans.inet6.commands); few = omega arith; rises = λ below h. tt; fits = (refl, refl) })
+lines_follow at plans [] script e = subst (λ (o : Result Reading LineFault). IfFollows at plans o) e (none_follow at plans)
 lines_follow at plans (text ∷ texts) script e =
     let later = λ (behind : Plans) (more : Reading) (f : lines_from (at + 1) behind texts ≡ Ok more). lines_follow (at + 1) behind texts more f in
     behind_answer at plans (asked_of at text) (λ behind. lines_from (at + 1) behind texts) script (asked_at at text) later e
 
+-- what follows nothing, from line 1 on
+pub follows_is_script : (script : Reading) → Follows 1 no_plans script → IsScript script
+follows_is_script script r = record { few = omega (arith, r.few); rises = r.rises 0 (omega arith); fits = r.fits }
+
 pub is_script : (texts : List (List ℕ)) (script : Reading) → lines_from 1 no_plans texts ≡ Ok script → IsScript script
-is_script texts script e =
-    let r = lines_follow 1 no_plans texts script e in
-    record { few = omega (arith, r.few); rises = r.rises 0 (omega arith); fits = r.fits }
+is_script texts script e = follows_is_script script (lines_follow 1 no_plans texts script e)
 
 -- the script that a reader has where no line is left
 pub read_is_script : (texts rest : List (List ℕ)) (number : ℕ) (plans : Plans) (front : List Line) (script : Reading) → with_front front (lines_from number plans rest) ≡ lines_from 1 no_plans texts → rest ≡ []

@@ -3,6 +3,7 @@ pub mod AskedLemmas
 pub mod BoundLemmas
 pub mod CommandLemmas
 pub mod FitsLemmas
+pub mod GeneratorLemmas
 pub mod LengthLemmas
 pub mod ReadBackLemmas
 pub mod ReadingLemmas

@@ -1,15 +1,20 @@
 -- The reading of one line of a script.
-use Rattle.std.proofs.Common.{◌≡◌, ◌∙◌, ℕ, ◌+◌, ◌-◌, ◌≤◌, List, [], ◌∷◌, ◌++◌, Ok, Err, Result, length, refl, ap, arith, append_assoc, length-append}
-use Rattle.std.specs.Prelude.{OnOk}
+use Rattle.std.proofs.Common.{◌≡◌, ◌∙◌, ℕ, ◌+◌, ◌-◌, ◌≤◌, false, nat_lt, List, [], ◌∷◌, ◌++◌, Ok, Err, Result, length, refl, sym, ap, subst, arith, append_assoc, length-append}
+use Rattle.std.specs.Prelude.{OnOk, IsErrAnd}
+use Rattle.std.proofs.lemmas.Bool.Decides.{nat_tests}
 use Rattle.rib_store.specs.declared.command.Command.{Command}
 use Rattle.rib_store.specs.Plan.{Planned, plan_with}
 use Rattle.route_lang.specs.declared.asked.Asked.{Asked}
 use Rattle.route_lang.specs.declared.asked.Asked.TheVariants.{Nothing, Inet, Inet6, Both, Get4, Get6}
 use Rattle.route_lang.specs.declared.line.Line.{Line}
 use Rattle.route_lang.specs.declared.fault.LineFault.{LineFault}
+use Rattle.route_lang.specs.declared.fault.ScriptError.{ScriptError}
+use Rattle.route_lang.specs.declared.fault.ScriptError.TheVariants as script_error
 use Rattle.route_lang.specs.declared.script.Plans.{Plans}
 use Rattle.route_lang.specs.Asked.{asked_of}
-use Rattle.route_lang.specs.Script.{Reading, plans_behind, entries_of, shared_command, with_front, lines_from, TakesLine, HasAtMost}
+use Rattle.route_lang.specs.Limits.{input_limit}
+use Rattle.route_lang.specs.Script.{Reading, plans_behind, entries_of, shared_command, with_front, lines_from, no_plans, script_of, GivesScript, TakesLine, RefusesLine, HasAtMost}
+use Rattle.route_lang.specs.Text.{lines_of}
 
 front_joined : (xs ys : List Line) (below : Result Reading LineFault) → with_front (xs ++ ys) below ≡ with_front xs (with_front ys below)
 front_joined xs ys (Err fault) = refl
@@ -33,7 +38,17 @@ room_behind n plans (Both s) some few = (one_more plans.inet (shared_command s) 
 room_behind n plans (Get4 addr flow) some few = (omega (arith, few.0), omega (arith, few.1))
 room_behind n plans (Get6 addr flow) some few = (omega (arith, few.0), omega (arith, few.1))
 
--- what an answer gives in two clauses
-pub both_on_ok : {A E P Q R : Type 0} (r : Result A E) → OnOk r P → OnOk r Q → (P → Q → R) → OnOk r R
-both_on_ok (Ok x) p q f = f p q
-both_on_ok (Err e) p q f = tt
+-- the fault of a line behind these is that of the whole
+pub gives_fault : (bytes : List ℕ) (r : Result Reading ScriptError) (error : ScriptError) (number : ℕ) (plans : Plans) (front : List Line) (text : List ℕ) (rest below : List (List ℕ)) → IsErrAnd r (λ e. e ≡ error) → length bytes ≤ input_limit
+    → rest ≡ text ∷ below → with_front front (lines_from number plans rest) ≡ lines_from 1 no_plans (lines_of bytes)
+    → ((fault : LineFault) → error ≡ script_error.Fault fault → RefusesLine number text plans fault) → GivesScript r (script_of bytes)
+gives_fault bytes (Ok script) error number plans front text rest below is few next whole refuses = absurd is
+gives_fault bytes (Err e) error number plans front text rest below is few next whole refuses =
+    subst (λ (told : ScriptError). GivesScript (Err told) (script_of bytes)) (sym is) (by_error error refuses)
+  where
+    by_error : (told : ScriptError) → ((fault : LineFault) → told ≡ script_error.Fault fault → RefusesLine number text plans fault) → GivesScript (Err told) (script_of bytes)
+    by_error (script_error.Fault fault) refused =
+        let inside : nat_lt input_limit (length bytes) ≡ false = grind (arith, nat_tests) in
+        let stops = ap (λ texts. with_front front (lines_from number plans texts)) next ∙ ap (with_front front) (refused fault refl below) in
+        rw inside (sym whole ∙ stops)
+    by_error script_error.OutOfMemory refused = tt

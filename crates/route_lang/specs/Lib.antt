@@ -1,6 +1,7 @@
 pub mod Asked
 pub mod Fault
 pub mod Fits
+pub mod Generator
 pub mod Limits
 pub mod Script
 pub mod Spelling

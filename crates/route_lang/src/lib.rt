@@ -1,11 +1,13 @@
 //! Scripts of route(8) commands, read from bytes and written.
 //!
 //! A script is a text of lines. [`read_script`] reads the whole grammar for both families, and
-//! [`write_line`] writes each line in its one canonical spelling.
+//! [`write_line`] writes each line in its one canonical spelling. [`generate`] makes scripts of
+//! drawn numbers.
 #![tactic(auto)]
 
 mod asked;
 mod fault;
+mod generator;
 mod line;
 mod read_line;
 mod script;
@@ -15,6 +17,7 @@ mod verb;
 mod walk;
 
 pub use fault::{LineFault, Reason, ScriptError};
+pub use generator::generate;
 pub use line::{Line, Lines};
 pub use script::{INPUT_MAX, LINE_MAX, LINES_MAX, Script, read_script};
 pub use spelling::{law_shown_text_reads_back, write_line};

@@ -7,6 +7,7 @@ ghost use Rattle.route_lang.specs.Fits.{IsScript};
 ghost use Rattle.route_lang.specs.Limits.{input_limit, lines_limit};
 ghost use Rattle.route_lang.specs.Script.{input_too_large, script_of, GivesScript, TakesLine, RefusesLine, HasAtMost, plans_behind, entries_of, shared_command, is_quiet, command_line, no_plans};
 
+use crate::OutOfMemory;
 use crate::asked::{Asked, Shared};
 use crate::fault::{LineFault, Reason, ScriptError};
 use crate::line::{Line, Lines};
@@ -47,6 +48,20 @@ impl Model for Script {
 }
 
 impl Script {
+    /// The script of these plans and lines.
+    pub(crate) fn of(alloc: Global, plans: Plans, lines: Vec<Line>) -> Result<Script, OutOfMemory>
+        requires { IsScript (record { inet = plans.inet; inet6 = plans.inet6; lines = lines.items }) }
+        ensures { IfOk result (λ script. script ≡ record { inet = plans.inet; inet6 = plans.inet6; lines = lines.items }) }
+    {
+        let inet = Arc::new(alloc, plans.inet)?;
+        let inet6 = Arc::new(alloc, plans.inet6)?;
+        Ok(Script {
+            inet,
+            inet6,
+            lines: Lines::new(lines),
+        })
+    }
+
     /// The commands of IPv4.
     pub fn inet(&self) -> &Arc<Plan<32>>
         ensures { arc_value result.now ≡ self.now.inet }
@@ -71,11 +86,23 @@ impl Script {
     }
 }
 
-/// The plans of both families while a script is read.
+/// The plans of both families while a script is made.
 #[derive(Drop)]
-struct Plans {
+pub(crate) struct Plans {
     inet: Plan<32>,
     inet6: Plan<128>,
+}
+
+impl Plans {
+    /// The empty plans.
+    pub(crate) fn new(alloc: Global) -> Plans
+        ensures { result ≡ no_plans }
+    {
+        Plans {
+            inet: Plan::new(alloc),
+            inet6: Plan::new(alloc),
+        }
+    }
 }
 
 /// The script that bytes are, or the first line that is refused and the first reason against it.
@@ -90,10 +117,7 @@ pub fn read_script(alloc: Global, bytes: &[u8]) -> Result<Script, ScriptError>
             reason: Reason::TooLarge,
         }));
     }
-    let mut plans = Plans {
-        inet: Plan::new(alloc),
-        inet6: Plan::new(alloc),
-    };
+    let mut plans = Plans::new(alloc);
     let mut lines = Vec::new(alloc);
     let mut rest = bytes;
     let mut number = 0;
@@ -102,13 +126,7 @@ pub fn read_script(alloc: Global, bytes: &[u8]) -> Result<Script, ScriptError>
         take_line(&mut plans, &mut lines, number, line)?;
         rest = after;
     }
-    let inet = Arc::new(alloc, plans.inet)?;
-    let inet6 = Arc::new(alloc, plans.inet6)?;
-    Ok(Script {
-        inet,
-        inet6,
-        lines: Lines::new(lines),
-    })
+    Ok(Script::of(alloc, plans, lines)?)
 }
 
 /// Takes in the line of a number.
@@ -126,7 +144,7 @@ fn take_line(
     ensures room { OnOk result (HasAtMost number plans.new) }
 {
     match read_line(number, line) {
-        Ok(asked) => take_asked(plans, lines, number, asked),
+        Ok(asked) => Ok(take_asked(plans, lines, number, asked)?),
         Err(reason) => Err(LineFault {
             line: number,
             reason,
@@ -136,17 +154,16 @@ fn take_line(
 }
 
 /// Takes in what the line of a number asks for.
-fn take_asked(
+pub(crate) fn take_asked(
     plans: &mut Plans,
     lines: &mut Vec<Line>,
     number: u32,
     asked: Asked,
-) -> Result<(), ScriptError>
+) -> Result<(), OutOfMemory>
     requires module { HasOwnModule asked }
     requires room { (length plans.old.inet.commands < plan_max) × (length plans.old.inet6.commands < plan_max) }
     ensures plans { OnOk result (plans.new ≡ plans_behind plans.old asked) }
     ensures lines { OnOk result (lines.new.items ≡ lines.old.items ++ entries_of number plans.old asked) }
-    ensures err { (fault : _) → ¬ (IsErrOf result (ScriptError.Fault fault)) }
 {
     match asked {
         Asked::Nothing => {}
@@ -190,17 +207,16 @@ fn take_asked(
 }
 
 /// Puts a command behind a plan, and gives its position.
-fn push<const W: u32>(plan: &mut Plan<W>, command: Command<W>) -> Result<u32, ScriptError>
+fn push<const W: u32>(plan: &mut Plan<W>, command: Command<W>) -> Result<u32, OutOfMemory>
     requires module { ¬ (IsWrongModule command) }
     requires room { length plan.old.commands < plan_max }
     ensures plan { OnOk result (plan.new ≡ plan_with plan.old command.entry) }
     ensures at { IfOk result (λ at. at ≡ length plan.old.commands) }
-    ensures err { (fault : _) → ¬ (IsErrOf result (ScriptError.Fault fault)) }
 {
     let at = plan.len();
     match plan.push(command) {
         Ok(()) => Ok(at),
-        Err(PushError::OutOfMemory) => Err(ScriptError::OutOfMemory),
+        Err(PushError::OutOfMemory) => Err(OutOfMemory),
         Err(PushError::PlanFull | PushError::WrongModule) => unreachable!(),
     }
 }

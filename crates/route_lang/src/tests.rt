@@ -1,8 +1,11 @@
 use crate::asked::{Asked, Shared};
 use crate::read_line::read_line;
-use crate::{Line, LineFault, Reason, ScriptError, read_script, write_line};
+use crate::{
+    Line, LineFault, OutOfMemory, Reason, Script, ScriptError, generate, read_script, write_line,
+};
 use prefix_width::{Addr, Kind, Nexthop, Path, Prefix, Setting};
 use rib_store::Command;
+use std::alloc::Global;
 use std::test::Fail;
 
 // One line each, with the first reason against it.
@@ -423,6 +426,93 @@ fn a_line_has_one_spelling(rt: HostRuntime) -> Result<(), Fail> {
             assert_eq!(rt; out.pop(), Some(b'\n'), "after {text:?}");
         }
         assert_eq!(rt; out.as_slice(), want, "of {text:?}");
+    }
+    Ok(())
+}
+
+// The lines of seed 7, worked out apart from this crate.
+const GENERATED: [&[u8]; 48] = [
+    b"get -inet 10.166.26.127 flow 3893713506",
+    b"add -inet 10.32.0.0/14 192.0.2.1 -weight 3",
+    b"change -inet 10.206.208.0/20 192.0.2.8",
+    b"add -inet 10.142.0.0/17 192.0.2.4 -weight 4",
+    b"add -inet 10.200.0.0/13 192.0.2.2 -weight 4",
+    b"get -inet 10.200.221.177 flow 1557067586",
+    b"get -inet 10.24.142.100 flow 3444997307",
+    b"add -inet 10.187.48.0/20 192.0.2.3 -weight 2",
+    b"add -inet 10.51.128.0/17 192.0.2.6 -weight 2",
+    b"add -inet 10.2.96.0/20 192.0.2.3 -weight 3",
+    b"add -inet 10.172.0.0/15 192.0.2.4 -weight 4",
+    b"get -inet 10.212.4.64 flow 3265982021",
+    b"change -inet 10.76.0.0/19 192.0.2.2",
+    b"add -inet 10.14.0.0/16 192.0.2.5 -weight 4",
+    b"tick 10",
+    b"change -inet 10.24.0.0/14 192.0.2.1",
+    b"add -inet 10.253.96.0/19 192.0.2.7 -weight 4",
+    b"tick 10",
+    b"add -inet 10.219.64.0/18 192.0.2.4 -weight 3",
+    b"change -inet 10.40.0.0/13 192.0.2.6",
+    b"add -inet 10.168.0.0/16 192.0.2.8",
+    b"add -inet 10.136.0.0/15 192.0.2.3 -weight 2",
+    b"add -inet 10.21.0.0/18 192.0.2.7 -weight 4",
+    b"add -inet 10.224.0.0/13 192.0.2.8 -weight 4",
+    b"add -inet 10.208.0.0/12 192.0.2.7",
+    b"get -inet 10.23.143.66 flow 2743720635",
+    b"add -inet 10.224.0.0/14 192.0.2.7",
+    b"change -inet 10.42.0.0/15 192.0.2.2",
+    b"get -inet 10.102.207.74 flow 99778744",
+    b"add -inet 10.62.64.0/18 192.0.2.1 -weight 3",
+    b"get -inet 10.15.23.174 flow 4036765762",
+    b"add -inet 10.223.0.0/19 192.0.2.3 -weight 4",
+    b"get -inet 10.185.24.4 flow 475406842",
+    b"get -inet 10.57.152.110 flow 1862805454",
+    b"get -inet 10.29.98.21 flow 1565859901",
+    b"add -inet 10.152.0.0/13 192.0.2.6 -weight 3",
+    b"add -inet 10.180.0.0/15 192.0.2.3 -weight 2",
+    b"get -inet 10.202.125.67 flow 4081937891",
+    b"get -inet 10.52.46.178 flow 4185451687",
+    b"add -inet 10.137.0.0/19 192.0.2.2 -weight 2",
+    b"add -inet 10.209.0.0/16 192.0.2.3 -weight 4",
+    b"add -inet 10.176.0.0/12 192.0.2.7 -weight 4",
+    b"add -inet 10.0.0.0/12 192.0.2.3 -weight 4",
+    b"add -inet 10.76.0.0/17 192.0.2.1 -weight 4",
+    b"get -inet 10.149.52.244 flow 1208393054",
+    b"delete -inet 10.164.96.0/19",
+    b"tick 10",
+    b"get -inet 10.123.217.239 flow 3383348389",
+];
+
+// The canonical text of a script.
+fn spelled(alloc: Global, script: &Script) -> Result<Vec<u8>, OutOfMemory> {
+    let mut out = Vec::new(alloc);
+    for i in 0..script.lines().len() {
+        write_line(alloc, script, i, &mut out)?;
+    }
+    Ok(out)
+}
+
+#[test]
+fn a_seed_gives_its_lines(rt: HostRuntime) -> Result<(), Fail> {
+    let first = generate(rt.alloc(), 0, 1)?;
+    let want = b"get -inet 10.8.238.17 flow 2599843874\n".as_slice();
+    assert_eq!(rt; spelled(rt.alloc(), &first)?.as_slice(), want);
+    let mut text = Vec::new(rt.alloc());
+    for line in GENERATED {
+        text.extend_from_slice(line)?;
+        text.push(b'\n')?;
+    }
+    let script = generate(rt.alloc(), 7, 48)?;
+    assert_eq!(rt; spelled(rt.alloc(), &script)?.as_slice(), text.as_slice());
+    // numbers and positions are those of the text
+    let read = match read_script(rt.alloc(), &text) {
+        Ok(read) => read,
+        Err(error) => return Err(error.into()),
+    };
+    assert_eq!(rt; (script.lines().len(), read.lines().len()), (48, 48));
+    for i in 0..script.lines().len() {
+        if i < read.lines().len() {
+            assert_eq!(rt; script.lines().get(i), read.lines().get(i));
+        }
     }
     Ok(())
 }
