@@ -25,3 +25,10 @@ pub use publisher::{Again, FibNote, Publisher, Ready};
 pub use starting::fib_start;
 pub use std::alloc::AllocError as OutOfMemory;
 pub use totals::{FibTotals, Packets, PassEnd, Totals};
+
+#[cfg(test)]
+mod test_fibs;
+#[cfg(test)]
+mod tests;
+#[cfg(test)]
+mod thread_tests;
