@@ -1,5 +1,5 @@
--- The result of a job on the bytes that were read.
-use Rattle.std.specs.Prelude.{◌≡◌, ℕ, ◌≤◌, Bool, true, false, List, length, Result, Ok, Err}
+-- What a job or a task makes of the bytes that were read.
+use Rattle.std.specs.Prelude.{◌≡◌, ℕ, ◌≤◌, Bool, true, false, List, length, Option, Some, None, Result, Ok, Err}
 use Rattle.route_lang.specs.declared.fault.LineFault.{LineFault}
 use Rattle.route_lang.specs.declared.fault.ScriptError.{ScriptError}
 use Rattle.route_lang.specs.declared.fault.ScriptError.TheVariants as script_error
@@ -7,12 +7,18 @@ use Rattle.route_lang.specs.Limits.{lines_limit}
 use Rattle.route_lang.specs.Script.{Reading, script_of}
 use Rattle.route_lang.specs.Spelling.{spelled}
 use Rattle.route_lang.specs.Text.{lines_of}
+use Rattle.fib_pass.specs.declared.totals.FibTotals.{FibTotals}
 use Rattle.replay_run.specs.Limits.{targets_max}
 use Rattle.replay_run.specs.Output.{serial_output}
 use Rattle.replay_run.specs.Survey.{generated_text}
 use Rattle.replay_run.specs.Text.{checked_text}
+use Rattle.threaded_replay.specs.Threaded.{IsThreaded}
 use Rattle.route_cli.specs.declared.job.Job.{Job}
 use Rattle.route_cli.specs.declared.job.Job.TheVariants.{Replay, Check, Show, Gen}
+use Rattle.route_cli.specs.declared.job.Task.{Task}
+use Rattle.route_cli.specs.declared.job.Task.TheVariants.{NotTaken, Does, ReplaysBy}
+
+-- ---- jobs, which wait for nobody
 
 -- what a job makes of a script whose text has so many lines
 abbrev pub text_of : Job → ℕ → Reading → List ℕ
@@ -53,3 +59,42 @@ module _ {V : Type 0} (bytes_of : V → List ℕ) where
   GivesResultBy (Ok text) result = result ≡ Ok (bytes_of text)
   GivesResultBy (Err (script_error.Fault fault)) result = result ≡ Err fault
   GivesResultBy (Err script_error.OutOfMemory) result = Unit {0}
+
+-- ---- tasks
+
+-- the text and the totals are those of the script's replay by so many workers
+abbrev pub IsReplayBy : ℕ → Result Reading LineFault → List ℕ → Option FibTotals → Type 0
+IsReplayBy workers (Ok script) text (Some totals) = IsThreaded workers script text totals
+IsReplayBy workers (Ok script) text None = ⊥
+IsReplayBy workers (Err fault) text totals = ⊥
+
+module _ {V : Type 0} (bytes_of : V → List ℕ) (totals_of : V → FibTotals) where
+  -- what is answered is such a replay, with its text seen as bytes, or the script's fault, unless memory is wanting
+  abbrev pub GivesReplayBy : ℕ → Result V ScriptError → Result Reading LineFault → Type 0
+  GivesReplayBy workers (Ok output) script = IsReplayBy workers script (bytes_of output) (Some (totals_of output))
+  GivesReplayBy workers (Err (script_error.Fault fault)) script = script ≡ Err fault
+  GivesReplayBy workers (Err script_error.OutOfMemory) script = Unit {0}
+
+-- what a task may make of the bytes: a text and, where it is a replay by workers, what their passes did
+abbrev pub Makes : Task → List ℕ → List ℕ → Option FibTotals → Type 0
+Makes NotTaken bytes text totals = ⊥
+Makes (Does job) bytes text totals = (result_of job bytes ≡ Ok text) × (totals ≡ None)
+Makes (ReplaysBy workers) bytes text totals = IsReplayBy workers (script_of bytes) text totals
+
+-- the bytes have this fault
+abbrev pub HaveFault : Task → List ℕ → LineFault → Type 0
+HaveFault NotTaken bytes fault = ⊥
+HaveFault (Does job) bytes fault = result_of job bytes ≡ Err fault
+HaveFault (ReplaysBy workers) bytes fault = script_of bytes ≡ Err fault
+
+-- whether a task reads a source
+abbrev pub is_reader : Task → Bool
+is_reader NotTaken = false
+is_reader (Does job) = is_read job
+is_reader (ReplaysBy workers) = true
+
+-- the numbers of a task are in their ranges
+abbrev pub FitsTask : Task → Type 0
+FitsTask NotTaken = Unit {0}
+FitsTask (Does job) = FitsJob job
+FitsTask (ReplaysBy workers) = (1 ≤ workers) × (workers ≤ 64)

@@ -6,12 +6,12 @@ use Rattle.command_line.specs.declared.request.Mode.TheVariants as mode
 use Rattle.command_line.specs.declared.request.Request.{Request}
 use Rattle.route_cli.specs.declared.job.Job.TheVariants.{Replay, Check, Show, Gen}
 use Rattle.route_cli.specs.declared.job.Task.{Task}
-use Rattle.route_cli.specs.declared.job.Task.TheVariants.{NotTaken, NotBuilt, Does}
+use Rattle.route_cli.specs.declared.job.Task.TheVariants.{NotTaken, Does, ReplaysBy}
 
--- a replay by workers is not built
+-- a replay is by so many workers, where these are given
 abbrev pub replay_by : Option ℕ → Task
 replay_by None = Does Replay
-replay_by (Some workers) = NotBuilt
+replay_by (Some workers) = ReplaysBy workers
 
 -- what a request of a mode asks
 abbrev pub task_in : Mode → Request → Task

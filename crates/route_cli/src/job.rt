@@ -1,12 +1,11 @@
-ghost use Rattle.std.specs.Prelude.{◌≡◌};
+ghost use Rattle.std.specs.Prelude.{◌≡◌, IfSome};
 ghost use Rattle.command_line.specs.Words.{IsBetween};
-ghost use Rattle.route_cli.specs.Cause.{IfJob};
-ghost use Rattle.route_cli.specs.Result.{FitsJob};
+ghost use Rattle.route_cli.specs.Result.{FitsTask};
 ghost use Rattle.route_cli.specs.Words.{task_in};
 
 use command_line::{Mode, Request};
 
-/// What is made of a script.
+/// What is made of a script without waiting for anybody.
 #[derive(Clone, Copy, Debug, PartialEq, Eq)]
 pub enum Job {
     /// Replays the script on one thread and writes its output.
@@ -25,22 +24,23 @@ pub enum Job {
 pub enum Task {
     /// Nothing: the words are not taken.
     NotTaken,
-    /// Something that is not built yet.
-    NotBuilt,
     /// A job.
     Does(Job),
+    /// A replay whose gets so many workers make, 1 to 64.
+    ReplaysBy { workers: u32 },
 }
 
 impl Task {
     /// What a request asks.
     pub(crate) fn of(request: &Request) -> Task
-        requires { IsBetween 1 1048576 request.now.count }
+        requires workers { IfSome request.now.workers (IsBetween 1 64) }
+        requires count { IsBetween 1 1048576 request.now.count }
         ensures task { result ≡ task_in request.now.mode request.now }
-        ensures fits { IfJob result FitsJob }
+        ensures fits { FitsTask result }
     {
         match (request.mode, request.workers) {
             (Mode::Replay, None) => Task::Does(Job::Replay),
-            (Mode::Replay, Some(_)) => Task::NotBuilt,
+            (Mode::Replay, Some(workers)) => Task::ReplaysBy { workers },
             (Mode::Check, _) => Task::Does(Job::Check),
             (Mode::Show, _) => Task::Does(Job::Show),
             (Mode::Gen, _) => Task::Does(Job::Gen {

@@ -14,6 +14,8 @@ pub use status::{Status, fault_text};
 pub use std::alloc::AllocError as OutOfMemory;
 use std::process::ExitCode;
 use std::rt::Env;
+use std::sync::Wait;
+use std::thread::Threads;
 use std::{env, io};
 pub use top::{plain, run};
 
@@ -33,7 +35,9 @@ fn main(rt: HostRuntime) -> ExitCode {
 }
 
 /// The words behind the program's name and the standard streams, handed to the top call.
-fn run_on_standard_streams(rt: &(impl Env + Print + Input + AllocGlobal)) -> Status {
+fn run_on_standard_streams(
+    rt: &(impl Env + Print + Input + AllocGlobal + Threads + Wait + Sync),
+) -> Status {
     let args = match env::args(rt) {
         Ok(args) => args,
         Err(error) if error.kind() == io::ErrorKind::OutOfMemory => return Status::OutOfMemory,
@@ -45,5 +49,6 @@ fn run_on_standard_streams(rt: &(impl Env + Print + Input + AllocGlobal)) -> Sta
     };
     let mut source = StdSource::new(rt.reader());
     let mut sink = StdSink::new(io::writer(rt));
-    run(rt, words.as_slice(), &mut source, &mut sink, &OpenGate)
+    let (status, _totals) = run(rt, words.as_slice(), &mut source, &mut sink, &OpenGate);
+    status
 }

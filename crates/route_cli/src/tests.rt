@@ -152,8 +152,6 @@ fib inet6 version 0 routes 0 algo range
 
 const NOT_TAKEN: [&str; 5] = ["", "play", "Replay", "replay replay", "replay --workers 65"];
 
-const NOT_BUILT: [&str; 1] = ["replay --workers 2"];
-
 // The first number that is drawn asks for a get over the empty table.
 const GENERATED_LINE: &str = "\
 gen seed 0 count 1
@@ -190,7 +188,8 @@ fn scripts_are_replayed(rt: HostRuntime) -> Result<(), Fail> {
     ] {
         let mut source = source(alloc, script, &[])?;
         let mut sink = MemSink::new(alloc, 1000, 10, Vec::new(alloc))?;
-        let ended = run(&rt, words.as_slice(), &mut source, &mut sink, &OpenGate);
+        let (ended, totals) = run(&rt, words.as_slice(), &mut source, &mut sink, &OpenGate);
+        assert!(rt; totals.is_none());
         assert_eq!(rt; ended, Status::Ok, "of {script}");
         assert_eq!(rt; sink.bytes(), output.as_bytes(), "of {script}");
     }
@@ -219,32 +218,85 @@ fn scripts_are_checked_shown_and_generated(rt: HostRuntime) -> Result<(), Fail> 
         let words = words(alloc, line)?;
         let mut source = source(alloc, script, &[])?;
         let mut sink = MemSink::new(alloc, 1000, 10, Vec::new(alloc))?;
-        let ended = run(&rt, words.as_slice(), &mut source, &mut sink, &OpenGate);
+        let (ended, totals) = run(&rt, words.as_slice(), &mut source, &mut sink, &OpenGate);
+        assert!(rt; totals.is_none());
         assert_eq!(rt; ended, Status::Ok, "of {script}");
         assert_eq!(rt; sink.bytes(), output.as_bytes(), "of {script}");
     }
     Ok(())
 }
 
+// All changes come before the sync line and all gets behind it, so the workers answer at the last
+// version.
+const SYNCED: &str = "\
+add 10.0.0.0/8 192.0.2.1
+add 10.1.0.0/16 192.0.2.2
+add 10.1.0.0/16 192.0.2.3
+add -inet6 2001:db8::/32 2001:db8::1
+algo radix
+sync
+get 10.0.0.1
+get 10.1.0.1
+get -inet6 2001:db8::5
+get 11.0.0.1
+get 10.1.2.3 flow 1
+get -inet6 ::1
+get 10.1.2.3 flow 2
+";
+
+const SYNCED_OUTPUT: &str = "\
+1 added
+2 added
+3 joined
+4 added
+7 10.0.0.1 version 4 via 192.0.2.1 if 0 mtu 0
+8 10.1.0.1 version 4 via 192.0.2.2 if 0 mtu 0
+9 2001:db8::5 version 1 via 2001:db8::1 if 0 mtu 0
+10 11.0.0.1 version 4 none
+11 10.1.2.3 version 4 via 192.0.2.3 if 0 mtu 0
+12 ::1 version 1 none
+13 10.1.2.3 version 4 via 192.0.2.2 if 0 mtu 0
+packets inet 1 via 192.0.2.1 if 0 mtu 0
+packets inet 2 via 192.0.2.2 if 0 mtu 0
+packets inet 1 via 192.0.2.3 if 0 mtu 0
+packets inet6 1 via 2001:db8::1 if 0 mtu 0
+fib inet version 4 routes 2 algo radix
+fib inet6 version 1 routes 1 algo range
+";
+
 #[test]
-fn other_words_are_not_taken_or_not_built(rt: HostRuntime) -> Result<(), Fail> {
+fn workers_answer_as_one_thread_does(rt: HostRuntime) -> Result<(), Fail> {
     let alloc = rt.alloc();
-    let not_built = Status::ScriptRefused {
-        line: 0,
-        reason: Reason::NotBuilt,
-    };
-    for (lines, status) in [
-        (NOT_TAKEN.as_slice(), Status::Usage),
-        (NOT_BUILT.as_slice(), not_built),
+    for (line, is_told) in [
+        ("replay", false),
+        ("replay --workers 1", true),
+        ("replay --workers 2", true),
+        ("--workers 3 replay", true),
+        ("replay --workers=17", true),
+        ("replay --workers 64", true),
     ] {
-        for line in lines {
-            let words = words(alloc, line)?;
-            let mut source = source(alloc, USUAL_TABLE, &[])?;
-            let mut sink = MemSink::new(alloc, 1000, 10, Vec::new(alloc))?;
-            let ended = run(&rt, words.as_slice(), &mut source, &mut sink, &OpenGate);
-            assert_eq!(rt; ended, status, "of {line}");
-            assert!(rt; sink.bytes().is_empty());
-        }
+        let words = words(alloc, line)?;
+        let mut source = source(alloc, SYNCED, &[])?;
+        let mut sink = MemSink::new(alloc, 2000, 100, Vec::new(alloc))?;
+        let (ended, totals) = run(&rt, words.as_slice(), &mut source, &mut sink, &OpenGate);
+        assert_eq!(rt; ended, Status::Ok, "of {line}");
+        assert_eq!(rt; sink.bytes(), SYNCED_OUTPUT.as_bytes(), "of {line}");
+        assert_eq!(rt; totals.is_some(), is_told);
+    }
+    Ok(())
+}
+
+#[test]
+fn other_words_are_not_taken(rt: HostRuntime) -> Result<(), Fail> {
+    let alloc = rt.alloc();
+    for line in NOT_TAKEN {
+        let words = words(alloc, line)?;
+        let mut source = source(alloc, USUAL_TABLE, &[])?;
+        let mut sink = MemSink::new(alloc, 1000, 10, Vec::new(alloc))?;
+        let (ended, totals) = run(&rt, words.as_slice(), &mut source, &mut sink, &OpenGate);
+        assert_eq!(rt; ended, Status::Usage, "of {line}");
+        assert!(rt; totals.is_none());
+        assert!(rt; sink.bytes().is_empty());
     }
     Ok(())
 }

@@ -36,8 +36,6 @@ pub enum Reason {
     NoTarget = 13,
     /// The word names no module, or one that is not for the family.
     NoModule = 14,
-    /// What is asked for is not built yet. No script is refused for it.
-    NotBuilt = 15,
 }
 
 impl Reason {
@@ -60,7 +58,6 @@ impl Reason {
             Reason::BadLength => "bad length",
             Reason::NoTarget => "no target",
             Reason::NoModule => "no such module",
-            Reason::NotBuilt => "not built",
         }
     }
 }

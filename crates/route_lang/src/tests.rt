@@ -100,7 +100,7 @@ const FAULTS: [(&[u8], Reason); 84] = [
 ];
 
 // Each reason with its number and its text.
-const REASONS: [(Reason, u8, &str); 15] = [
+const REASONS: [(Reason, u8, &str); 14] = [
     (Reason::TooLarge, 1, "input too large"),
     (Reason::TooManyLines, 2, "too many lines"),
     (Reason::LineTooLong, 3, "line too long"),
@@ -115,7 +115,6 @@ const REASONS: [(Reason, u8, &str); 15] = [
     (Reason::BadLength, 12, "bad length"),
     (Reason::NoTarget, 13, "no target"),
     (Reason::NoModule, 14, "no such module"),
-    (Reason::NotBuilt, 15, "not built"),
 ];
 
 #[test]

@@ -1,0 +1,15 @@
+pub mod AskLemmas
+pub mod CountLemmas
+pub mod EndLemmas
+pub mod FibLemmas
+pub mod JobLemmas
+pub mod LegalLemmas
+pub mod MergeLemmas
+pub mod OutputLemmas
+pub mod PrintLemmas
+pub mod ProducingLemmas
+pub mod ResultLemmas
+pub mod ServingLemmas
+pub mod TallyLemmas
+pub mod ThreadedLemmas
+pub mod TurnsLemmas

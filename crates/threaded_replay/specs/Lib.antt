@@ -1,0 +1,9 @@
+pub mod Asked
+pub mod Fibs
+pub mod Legal
+pub mod Merging
+pub mod Printing
+pub mod Producing
+pub mod Serving
+pub mod Tally
+pub mod Threaded
