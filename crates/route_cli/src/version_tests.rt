@@ -128,3 +128,55 @@ fn outputs_end_as_versions_and_limits_say(rt: HostRuntime) -> Result<(), Fail> {
     }
     Ok(())
 }
+
+// The 26th change is pending, so the algo makes a version whatever module served before.
+const ADDED_BEFORE_ALGO: Case = Case {
+    series: Series::Hosts,
+    first: 1,
+    count: 26,
+    behind: "",
+    end: "",
+};
+
+const BEHIND_ALGO: &str = "\
+add 10.0.0.0/24 192.0.2.2
+add 10.0.0.0/24 192.0.2.3 -weight 2
+sync
+get 10.0.0.26
+get 10.0.0.99
+get 10.0.0.99 flow 1
+get 10.0.0.99 flow 5
+get 10.0.1.0
+";
+
+const ANSWERED_ALIKE: &str = "\
+28 added
+29 joined
+31 10.0.0.26 version 27 via 192.0.2.1 if 0 mtu 0
+32 10.0.0.99 version 27 via 192.0.2.2 if 0 mtu 0
+33 10.0.0.99 version 27 via 192.0.2.3 if 0 mtu 0
+34 10.0.0.99 version 27 via 192.0.2.3 if 0 mtu 0
+35 10.0.1.0 version 27 none
+packets inet 1 via 192.0.2.1 if 0 mtu 0
+packets inet 1 via 192.0.2.2 if 0 mtu 0
+packets inet 2 via 192.0.2.3 if 0 mtu 0
+fib inet version 27 routes 27 algo ";
+
+#[test]
+fn each_module_answers_alike(rt: HostRuntime) -> Result<(), Fail> {
+    let alloc = rt.alloc();
+    for name in ["scan", "range", "radix", "dxr"] {
+        let mut text = script(alloc, &ADDED_BEFORE_ALGO)?;
+        let algo = format!(in alloc; "algo {name}\n{BEHIND_ALGO}")?;
+        text.extend_from_slice(algo.as_bytes())?;
+        let mut source = MemSource::new(text, 4096, Vec::new(alloc));
+        let mut sink = MemSink::new(alloc, 4096, 4096, Vec::new(alloc))?;
+        let ended = plain(alloc, Job::Replay, &mut source, &mut sink);
+        assert_eq!(rt; ended, Status::Ok);
+        let end = format!(in alloc;
+            "{ANSWERED_ALIKE}{name}\nfib inet6 version 0 routes 0 algo range\n"
+        )?;
+        assert!(rt; sink.bytes().ends_with(end.as_bytes()));
+    }
+    Ok(())
+}
