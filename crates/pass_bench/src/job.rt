@@ -1,5 +1,5 @@
-ghost use Rattle.std.specs.Prelude.{◌≤◌, IfSome};
-ghost use Rattle.pass_bench.specs.declared.job.TheConstants.{ROUTES_MAX};
+ghost use Rattle.std.specs.Prelude.{ℕ, IfNone, IfSome};
+ghost use Rattle.pass_bench.specs.Words.{AsksRoutes};
 
 /// How many routes are measured at most.
 const ROUTES_MAX: u32 = 262_144;
@@ -25,7 +25,8 @@ pub(crate) fn job_of(words: &[String]) -> Option<Job> {
 
 /// A number of routes that may be measured.
 fn routes_of(text: &str) -> Option<u32>
-    ensures { IfSome result (λ routes. routes ≤ ROUTES_MAX) }
+    ensures taken { IfSome result (λ routes. AsksRoutes text.now routes) }
+    ensures refused { IfNone result ((routes : ℕ) → ¬ AsksRoutes text.now routes) }
 {
     match text.parse::<u32>() {
         Ok(routes) if 1 <= routes && routes <= ROUTES_MAX => Some(routes),

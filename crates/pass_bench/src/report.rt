@@ -1,5 +1,4 @@
-ghost use Rattle.std.specs.Prelude.{◌≡◌, ◌≤◌, ◌*◌, ◌/◌, max};
-ghost use Rattle.pass_bench.specs.declared.job.Job.TheVariants.{Show, Time};
+ghost use Rattle.std.specs.Prelude.{◌≡◌, ◌≤◌, ◌+◌, ◌-◌, ◌*◌, ◌/◌, ◌^◌, max, min};
 
 use crate::beside::{Beside, run_beside};
 use crate::fault::{Fault, print_fault};
@@ -135,7 +134,8 @@ fn printed(outcome: io::Result<()>) -> Result<(), Fault> {
 /// A quotient, cut off behind its first decimal: the whole part and the tenths. By 0 it divides as
 /// by 1.
 fn tenths(dividend: u128, divisor: u64) -> (u128, u128)
-    ensures { result.1 ≤ 9 }
+    ensures whole { result.0 * 10 + result.1 ≡ min (dividend * 10) (2 ^ 128 - 1) / max divisor 1 }
+    ensures tenths { result.1 ≤ 9 }
 {
     let all = dividend.saturating_mul(10) / u128::from(divisor).max(1);
     (all / 10, all % 10)
