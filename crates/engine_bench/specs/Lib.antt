@@ -1,3 +1,2 @@
-pub mod Draws
-pub mod Fault
+pub mod Batch
 pub mod Sum

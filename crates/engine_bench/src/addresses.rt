@@ -1,8 +1,9 @@
+//! The addresses that are looked up.
 ghost use Rattle.std.specs.Prelude.{◌≤◌};
 
 use crate::OutOfMemory;
-use crate::draws::Draws;
 use crate::family::{draw_host, draw_uniform};
+use bench_kit::Draws;
 use prefix_width::{Addr, Prefix};
 use std::alloc::Global;
 

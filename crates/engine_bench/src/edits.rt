@@ -1,10 +1,10 @@
+//! What changes of a table cost.
 ghost use Rattle.std.specs.Prelude.{◌≡◌, ◌≤◌, IfOk, OnOk};
 ghost use Rattle.module_trait.specs.Rows.{HaveIndexes};
 ghost use Rattle.radix_lockless.specs.Table.{IsRadixOf};
 
 use crate::OutOfMemory;
-use crate::fault::Fault;
-use crate::measure::time;
+use bench_kit::{Fault, cpu_time};
 use module_trait::{Edit, Module, RouteView};
 use prefix_width::Prefix;
 use radix_lockless::RadixTable;
@@ -44,18 +44,18 @@ pub(crate) fn measure_edits<const W: u32, R: CpuClock + AllocGlobal>(
     let rows = view.rows(alloc)?;
     let mut table: RadixTable<W> = RadixTable::build(alloc, rows.as_slice())?;
     let copy = time_copies(rt, &mut table, view, prefixes)?;
-    let start = time(rt)?;
+    let start = cpu_time(rt)?;
     replace_rows(alloc, &mut table, view, prefixes)?;
-    let removals = time(rt)?.saturating_sub(start);
-    let start = time(rt)?;
+    let removals = cpu_time(rt)?.saturating_sub(start);
+    let start = cpu_time(rt)?;
     change_rows(alloc, &mut table, view, prefixes, CHANGED)?;
-    let changes = time(rt)?.saturating_sub(start);
-    let start = time(rt)?;
+    let changes = cpu_time(rt)?.saturating_sub(start);
+    let start = cpu_time(rt)?;
     replace_in_view(view, prefixes)?;
-    let removals = removals.saturating_sub(time(rt)?.saturating_sub(start));
-    let start = time(rt)?;
+    let removals = removals.saturating_sub(cpu_time(rt)?.saturating_sub(start));
+    let start = cpu_time(rt)?;
     change_in_view(view, prefixes, CHANGED)?;
-    let changes = changes.saturating_sub(time(rt)?.saturating_sub(start));
+    let changes = changes.saturating_sub(cpu_time(rt)?.saturating_sub(start));
     Ok(EditFigures {
         changes,
         removals,
@@ -169,10 +169,10 @@ fn time_copies<const W: u32, R: CpuClock + AllocGlobal>(
         }
         let three = &prefixes[first..first + 3];
         change_rows(alloc, table, view, three, BEFORE_COPY)?;
-        let start = time(rt)?;
+        let start = cpu_time(rt)?;
         table.settle(alloc)?;
         let _copy = table.copy(alloc)?;
-        least = least.min(time(rt)?.saturating_sub(start));
+        least = least.min(cpu_time(rt)?.saturating_sub(start));
     }
     Ok(least)
 }

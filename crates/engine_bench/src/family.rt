@@ -1,6 +1,7 @@
+//! How routes and hosts of each family are drawn.
 ghost use Rattle.std.specs.Prelude.{◌≤◌};
 
-use crate::draws::Draws;
+use bench_kit::Draws;
 
 /// A route as it is drawn, before its host bits are cleared.
 #[derive(Clone, Copy)]

@@ -1,8 +1,12 @@
-ghost use Rattle.std.specs.Prelude.{◌≤◌, IfSome};
+//! What a run does.
+ghost use Rattle.std.specs.Option.{SomeIff};
+ghost use Rattle.bench_kit.specs.Words.{IsNumberTo, number_of};
 ghost use Rattle.engine_bench.specs.declared.job.TheConstants.{ROUTES_MAX};
 
+use bench_kit::number_in;
+
 /// How many routes are measured at most.
-const ROUTES_MAX: usize = 1_000_000;
+const ROUTES_MAX: u64 = 1_000_000;
 
 /// What a run does.
 #[derive(Clone, Copy)]
@@ -11,25 +15,25 @@ pub(crate) enum Job {
     Sums,
     /// Measures at so many routes.
     Time(usize),
+    /// The same of dxr alone.
+    Dxr(usize),
 }
 
-/// The job of the words behind the program's name: none, or `time` and a number of routes from 1
-/// to [`ROUTES_MAX`].
+/// The job of the words behind the program's name: none, or `time` or `dxr` and a number of
+/// routes from 1 to [`ROUTES_MAX`].
 pub(crate) fn job_of(words: &[String]) -> Option<Job> {
     match words {
         [] => Some(Job::Sums),
         [word, number] if word.as_str() == "time" => Some(Job::Time(routes_of(number.as_str())?)),
+        [word, number] if word.as_str() == "dxr" => Some(Job::Dxr(routes_of(number.as_str())?)),
         _ => None,
     }
 }
 
 /// A number of routes that may be measured.
 fn routes_of(text: &str) -> Option<usize>
-    ensures least { IfSome result (λ routes. 1 ≤ routes) }
-    ensures most { IfSome result (λ routes. routes ≤ ROUTES_MAX) }
+    ensures { SomeIff result (IsNumberTo ROUTES_MAX text.now) (number_of text.now) }
 {
-    match text.parse::<usize>() {
-        Ok(routes) if 1 <= routes && routes <= ROUTES_MAX => Some(routes),
-        _ => None,
-    }
+    let routes = number_in(text, ROUTES_MAX)?;
+    Some(routes as usize)
 }

@@ -1,9 +1,10 @@
+//! Sums and times of lookups.
 ghost use Rattle.std.specs.Prelude.{◌≡◌, ℕ, List, IfOk};
 ghost use Rattle.prefix_width.specs.Prefix.{Block};
 ghost use Rattle.module_trait.specs.Rows.{AreRows};
 ghost use Rattle.engine_bench.specs.Sum.{check_sum};
 
-use crate::fault::Fault;
+use bench_kit::{Fault, cpu_time};
 use module_trait::{Module, Steps};
 use prefix_width::{Addr, Prefix};
 use std::sync::ledger::Ledger;
@@ -52,9 +53,9 @@ pub(crate) fn measure<const W: u32, M: Module<W>, R: CpuClock + AllocGlobal, L: 
     requires { AreRows rows.now }
     ensures { IfOk result (λ figures. figures.sum ≡ check_sum W rows.now addrs.now) }
 {
-    let start = time(rt)?;
+    let start = cpu_time(rt)?;
     let table = M::build(rt.alloc(), rows)?;
-    let build = time(rt)?.saturating_sub(start);
+    let build = cpu_time(rt)?.saturating_sub(start);
     let copy = table.copy(rt.alloc())?;
     let (lookups, sum) = time_lookups(rt, &table, addrs, steps)?;
     let (copied, _sum) = time_lookups(rt, &copy, addrs, steps)?;
@@ -78,17 +79,9 @@ fn time_lookups<const W: u32, M: Module<W>, R: CpuClock, L: Ledger>(
     let mut sum = sum_of(table, addrs, steps);
     let mut least = Duration::MAX;
     for _ in 0..ROUNDS {
-        let start = time(rt)?;
+        let start = cpu_time(rt)?;
         sum = sum_of(table, addrs, steps);
-        least = least.min(time(rt)?.saturating_sub(start));
+        least = least.min(cpu_time(rt)?.saturating_sub(start));
     }
     Ok((least, sum))
-}
-
-/// The processor time that this thread has used.
-pub(crate) fn time<R: CpuClock>(rt: &R) -> Result<Duration, Fault> {
-    match rt.thread_cpu_time() {
-        Ok(time) => Ok(time),
-        Err(_) => Err(Fault::Clock),
-    }
 }

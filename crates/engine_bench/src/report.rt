@@ -1,13 +1,16 @@
+//! What is printed.
 ghost use Rattle.std.specs.Prelude.{◌≡◌, ◌+◌, ◌*◌, ◌/◌, ◌%◌, ◌<◌, ◌≤◌, max};
 ghost use Rattle.module_trait.specs.Rows.{AreRows};
 
 use crate::addresses::{inside, uniform};
+use crate::chunk_report::{print_chunk_edits, print_chunk_times};
 use crate::edits::measure_edits;
 use crate::family::family_name;
-use crate::fault::{Fault, print_fault};
 use crate::job::Job;
 use crate::measure::{measure, sum_of};
 use crate::routes::{count_nodes, count_starts, draw_routes, draw_view};
+use bench_kit::{Fault, printed, tenths};
+use dxr_chunks::ChunkTable;
 use dxr_table::DxrTable;
 use module_trait::{Module, ScanTable, Steps};
 use prefix_width::{Addr, Prefix};
@@ -40,9 +43,10 @@ pub(crate) fn work<R: Print + AllocGlobal + CpuClock, L: Ledger>(
             print_dxr_sums(rt, &mut steps)?;
             print_sums::<128, R, L>(rt, &mut steps)
         }
+        Job::Dxr(count) => print_all_of_dxr(rt, count, &mut steps),
         Job::Time(count) => {
             print_times::<32, R, L>(rt, count, &mut steps)?;
-            print_dxr_times(rt, count, &mut steps)?;
+            print_all_of_dxr(rt, count, &mut steps)?;
             print_times::<128, R, L>(rt, count, &mut steps)?;
             print_edit_times::<32, R>(rt, count)?;
             print_edit_times::<128, R>(rt, count)
@@ -74,7 +78,7 @@ fn print_sums<const W: u32, R: Print + AllocGlobal, L: Ledger>(
     Ok(())
 }
 
-/// Prints the check sums of dxr, which has addresses of IPv4 alone.
+/// Prints the check sums of dxr, whole and by chunks, which has addresses of IPv4 alone.
 fn print_dxr_sums<R: Print + AllocGlobal, L: Ledger>(
     rt: &R,
     steps: &mut Steps<L>,
@@ -83,8 +87,10 @@ fn print_dxr_sums<R: Print + AllocGlobal, L: Ledger>(
     let rows = routes.rows.as_slice();
     let addrs = inside(rt.alloc(), routes.prefixes.as_slice())?;
     print_sum::<32, DxrTable, R, L>(rt, ("dxr", "inside"), rows, addrs.as_slice(), steps)?;
+    print_sum::<32, ChunkTable, R, L>(rt, ("chunks", "inside"), rows, addrs.as_slice(), steps)?;
     let addrs = uniform::<32>(rt.alloc())?;
-    print_sum::<32, DxrTable, R, L>(rt, ("dxr", "uniform"), rows, addrs.as_slice(), steps)
+    print_sum::<32, DxrTable, R, L>(rt, ("dxr", "uniform"), rows, addrs.as_slice(), steps)?;
+    print_sum::<32, ChunkTable, R, L>(rt, ("chunks", "uniform"), rows, addrs.as_slice(), steps)
 }
 
 /// Prints the sums of sorted ranges and of the trie, and that of the plain module over the first
@@ -122,10 +128,7 @@ fn print_sum<const W: u32, M: Module<W>, R: Print + AllocGlobal, L: Ledger>(
     let (module, kind) = names;
     let family = family_name::<W>();
     let count = rows.len();
-    match println!(rt; "{module} {family} {kind} {count} {sum}") {
-        Ok(()) => Ok(()),
-        Err(error) => Err(print_fault(&error)),
-    }
+    printed(println!(rt; "{module} {family} {kind} {count} {sum}"))
 }
 
 /// Prints what the modules are measured at in a family.
@@ -172,7 +175,18 @@ fn print_module_times<const W: u32, R: Print + AllocGlobal + CpuClock, L: Ledger
     print_time::<W, ScanTable<W>, R, L>(rt, ("scan", kind), rows, few, bytes, steps)
 }
 
-/// Prints what dxr is measured at.
+/// Prints what dxr is measured at, whole and by chunks.
+fn print_all_of_dxr<R: Print + AllocGlobal + CpuClock, L: Ledger>(
+    rt: &R,
+    count: usize,
+    steps: &mut Steps<L>,
+) -> Result<(), Fault> {
+    print_dxr_times(rt, count, steps)?;
+    print_chunk_times(rt, count, steps)?;
+    print_chunk_edits(rt, count)
+}
+
+/// Prints what dxr is measured at that is built whole.
 fn print_dxr_times<R: Print + AllocGlobal + CpuClock, L: Ledger>(
     rt: &R,
     count: usize,
@@ -213,16 +227,13 @@ fn print_time<const W: u32, M: Module<W>, R: Print + AllocGlobal + CpuClock, L: 
     let (module, kind) = names;
     let family = family_name::<W>();
     let (count, lookups, sum) = (rows.len(), addrs.len(), figures.sum);
-    let (nanos, nano_tenths) = tenths(figures.lookups.as_nanos(), lookups);
-    let (copied, copied_tenths) = tenths(figures.copied.as_nanos(), lookups);
+    let (nanos, nano_tenths) = tenths(figures.lookups.as_nanos(), lookups as u128);
+    let (copied, copied_tenths) = tenths(figures.copied.as_nanos(), lookups as u128);
     let (millis, micros) = thousandths(figures.build.as_micros());
-    let (bytes, byte_tenths) = tenths(bytes as u128, count);
-    match println!(rt;
+    let (bytes, byte_tenths) = tenths(bytes as u128, count as u128);
+    printed(println!(rt;
         "{module} {family} {kind} {count}: {nanos}.{nano_tenths} ns a lookup, {copied}.{copied_tenths} in a copy, {millis}.{micros:03} ms to build, {bytes}.{byte_tenths} bytes a route, sum {sum} of {lookups}"
-    ) {
-        Ok(()) => Ok(()),
-        Err(error) => Err(print_fault(&error)),
-    }
+    ))
 }
 
 /// Prints what edits and copies of the trie are measured at.
@@ -240,12 +251,9 @@ fn print_edit_times<const W: u32, R: Print + AllocGlobal + CpuClock>(
     let changes = per_second(count, figures.changes.as_nanos());
     let removals = per_second(count.saturating_mul(2), figures.removals.as_nanos());
     let (micros, nanos) = thousandths(figures.copy.as_nanos());
-    match println!(rt;
+    printed(println!(rt;
         "radix {family} edits {count}: {changes} changes of an index a second, {removals} removals and additions a second, {micros}.{nanos:03} us to copy after three changed nodes"
-    ) {
-        Ok(()) => Ok(()),
-        Err(error) => Err(print_fault(&error)),
-    }
+    ))
 }
 
 /// How many there are in a second, if so many take so many nanoseconds. None takes as long as one.
@@ -255,17 +263,8 @@ fn per_second(count: usize, nanos: u128) -> u128
     count as u128 * 1_000_000_000 / nanos.max(1)
 }
 
-/// A quotient, cut off behind its first decimal: the whole part and the tenths. By 0 it divides as
-/// by 1.
-fn tenths(dividend: u128, divisor: usize) -> (u128, u128)
-    ensures { result.1 ≤ 9 }
-{
-    let all = dividend.saturating_mul(10) / (divisor as u128).max(1);
-    (all / 10, all % 10)
-}
-
 /// Thousandths as wholes and the thousandths behind them.
-fn thousandths(number: u128) -> (u128, u128)
+pub(crate) fn thousandths(number: u128) -> (u128, u128)
     ensures whole { result.0 ≡ number / 1_000 }
     ensures rest { result.1 ≡ number % 1_000 }
 {

@@ -1,3 +1,4 @@
+//! Drawn routes in a view, and where their ranges start.
 ghost use Rattle.std.specs.Prelude.{◌≡◌, ◌+◌, ◌-◌, ◌^◌, ◌<◌, ◌≤◌, IfOk, OnOk, length};
 ghost use Rattle.module_trait.specs.Rows.{AreRows, HaveIndexes};
 ghost use Rattle.module_trait.specs.Starts.{starts_of, with_end_of};
@@ -6,8 +7,8 @@ ghost use Rattle.std.specs.Option.{SomeIff};
 ghost use Rattle.std.specs.Ordering.{nat_cmp};
 
 use crate::OutOfMemory;
-use crate::draws::Draws;
 use crate::family::draw_route;
+use bench_kit::Draws;
 use module_trait::RouteView;
 use prefix_width::{Addr, Prefix};
 use std::alloc::Global;

@@ -1,4 +1,3 @@
-pub mod Fault
 pub mod Reads
 pub mod Words
 pub mod Names

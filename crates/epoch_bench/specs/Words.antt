@@ -1,16 +1,14 @@
 -- Which words are taken, and what they ask.
 use Rattle.std.specs.Prelude.{◌≡◌, ◌≤◌, ℕ, List, [], ◌∷◌, codes}
-use Rattle.std.specs.Str.Parse.{IsNumeral, digits_value, without_leading_plus}
+use Rattle.bench_kit.specs.Words.{IsNumberTo, number_of}
 use Rattle.epoch_bench.specs.declared.job.Job.{Job}
 use Rattle.epoch_bench.specs.declared.job.Job.TheVariants.{Show, Time}
 use Rattle.epoch_bench.specs.declared.job.TheConstants.{ROUNDS_MAX}
 
--- the text is decimal digits, behind a plus or not, of a number from 1 to ROUNDS_MAX
+-- the text writes this number, which is 1 to ROUNDS_MAX
 pub record AsksRounds (text : List ℕ) (rounds : ℕ) : Type 0 where
-  pub numeral : IsNumeral 10 (without_leading_plus text)
-  pub value : digits_value 10 (without_leading_plus text) ≡ rounds
-  pub least : 1 ≤ rounds
-  pub most : rounds ≤ ROUNDS_MAX
+  pub number : IsNumberTo ROUNDS_MAX text
+  pub value : number_of text ≡ rounds
 
 -- no words ask for the show, and `time` and a number for the times of so many rounds
 abbrev pub Asks : List (List ℕ) → Job → Type 0

@@ -1,16 +1,16 @@
+//! Readers beside a control that places without pause.
 ghost use Rattle.std.specs.Prelude.{◌≡◌, ◌+◌, ◌*◌, ◌<◌, ◌≤◌, ◌++◌, IfOk, IfErr, length, All, vec_len};
 ghost use denote.Param.Send.{IsSync};
 ghost use Rattle.atomic_table.specs.Seated.{TableId};
-ghost use Rattle.epoch_bench.specs.declared.fault.Fault.TheVariants.{Clock};
+ghost use Rattle.bench_kit.specs.declared.fault.Fault.TheVariants.{Clock};
 ghost use Rattle.epoch_bench.specs.Reads.{Reaches, HasRoom, rightly, HasRead};
 
 use crate::OutOfMemory;
-use crate::clock::cpu_time;
-use crate::fault::Fault;
 use crate::reader::{Found, read_on};
 use crate::stamp::{Control, Reader};
 use crate::table::{close_table, start_table};
 use crate::writer::{Goal, Written, write};
+use bench_kit::{Fault, cpu_time};
 use std::alloc::Global;
 use std::sync::Wait;
 use std::sync::atomic::{AtomicBool, Ordering};

@@ -1,10 +1,11 @@
+//! A control beside readers that do nothing.
 ghost use Rattle.std.specs.Prelude.{◌≡◌, ◌+◌, ◌<◌, ◌≤◌, IfOk, IfErr};
-ghost use Rattle.epoch_bench.specs.Fault.{IsRunFault};
+ghost use Rattle.bench_kit.specs.Fault.{IsRunFault};
 ghost use Rattle.epoch_bench.specs.declared.writer.TheConstants.{VERSION_MAX};
 
-use crate::fault::Fault;
 use crate::table::{close_table, start_table};
 use crate::writer::{Goal, write};
+use bench_kit::Fault;
 use std::alloc::Global;
 use std::sync::Wait;
 use std::sync::atomic::AtomicBool;

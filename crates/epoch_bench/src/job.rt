@@ -1,5 +1,8 @@
+//! What a run does.
 ghost use Rattle.std.specs.Prelude.{IfSome, IfNone, map, string_bytes, ℕ, ◌∷◌, []};
 ghost use Rattle.epoch_bench.specs.Words.{Asks, AsksRounds, HasRounds};
+
+use bench_kit::number_in;
 
 /// How many rounds are measured at most.
 const ROUNDS_MAX: u64 = 1_000_000_000;
@@ -45,8 +48,5 @@ fn rounds_of(text: &str) -> Option<u64>
     ensures taken { IfSome result (λ rounds. AsksRounds text.now rounds) }
     ensures refused { IfNone result ((rounds : ℕ) → ¬ AsksRounds text.now rounds) }
 {
-    match text.parse::<u64>() {
-        Ok(rounds) if 1 <= rounds && rounds <= ROUNDS_MAX => Some(rounds),
-        _ => None,
-    }
+    number_in(text, ROUNDS_MAX)
 }

@@ -2,25 +2,25 @@
 //!
 //! With no words it runs 1, 2 and 3 readers beside a control that places 1,000 versions, then 1,000
 //! versions with 64 idle readers, and prints what doesn't depend on the schedule. With `time N` it
-//! prints what N rounds take.
+//! prints what N rounds take, and what hits and the counts of index words take.
 #![tactic(auto)]
 
 ghost use Rattle.std.specs.Prelude.{IfOk, IfErr};
-ghost use Rattle.epoch_bench.specs.Fault.{IsWordFault};
+ghost use Rattle.bench_kit.specs.Fault.{IsWordFault};
 ghost use Rattle.epoch_bench.specs.Words.{HasRounds};
 
 mod beside;
-mod clock;
-mod fault;
+mod hits;
 mod idle;
 mod job;
 mod reader;
 mod report;
 mod stamp;
 mod table;
+mod turn;
 mod writer;
 
-use fault::Fault;
+use bench_kit::{Fault, end, words_of};
 use job::{Job, job_of};
 use report::work;
 pub use std::alloc::AllocError as OutOfMemory;
@@ -29,16 +29,9 @@ use std::rt::Env;
 use std::sync::Wait;
 use std::thread::Threads;
 use std::time::CpuClock;
-use std::{env, io};
 
 fn main(rt: HostRuntime) -> ExitCode {
-    match run(&rt) {
-        Ok(()) => ExitCode::from(0),
-        Err(fault) => {
-            let _ = rt.eprintln(fault);
-            ExitCode::from(fault.code())
-        }
-    }
+    end(&rt, "epoch_bench", "[time N]", run(&rt))
 }
 
 /// Does the job of the words behind the program's name.
@@ -54,12 +47,7 @@ fn read_job<R: Env + AllocGlobal>(rt: &R) -> Result<Job, Fault>
     ensures rounds { IfOk result (λ job. HasRounds job) }
     ensures fault { IfErr result IsWordFault }
 {
-    let args = match env::args(rt) {
-        Ok(args) => args,
-        Err(error) if error.kind() == io::ErrorKind::OutOfMemory => return Err(Fault::OutOfMemory),
-        Err(_) => return Err(Fault::Usage),
-    };
-    let words: Vec<String> = args.skip(1).collect(rt.alloc())?;
+    let words = words_of(rt)?;
     match job_of(words.as_slice()) {
         Some(job) => Ok(job),
         None => Err(Fault::Usage),

@@ -1,3 +1,4 @@
+//! What a reader does, and what it found.
 ghost use Rattle.std.specs.Prelude.{◌≡◌, ◌+◌, ◌*◌, ◌<◌, ◌≤◌, ℕ};
 ghost use Rattle.epoch_bench.specs.Reads.{rightly};
 

@@ -1,17 +1,17 @@
-ghost use Rattle.std.specs.Prelude.{◌≡◌, ◌+◌, ◌*◌, ◌/◌, ◌%◌, ◌<◌, ◌≤◌, max, IfErr};
-ghost use Rattle.epoch_bench.specs.Fault.{IsPrintFault};
+//! What is printed.
+ghost use Rattle.std.specs.Prelude.{◌≡◌, ◌*◌, ◌/◌, ◌≤◌, max};
 ghost use Rattle.epoch_bench.specs.Words.{HasRounds};
 ghost use Rattle.epoch_bench.specs.declared.job.TheConstants.{ROUNDS_MAX};
 
 use crate::beside::{Beside, run_beside};
-use crate::fault::{Fault, print_fault};
+use crate::hits::{HITS_MAX, time_close, time_hits, time_turns};
 use crate::idle::{Idle, run_idle};
 use crate::job::Job;
 use crate::writer::Goal;
-use std::io;
+use bench_kit::{Fault, printed, tenths};
 use std::sync::Wait;
 use std::thread::Threads;
-use std::time::CpuClock;
+use std::time::{CpuClock, Duration};
 
 /// How many versions are placed when readers are shown.
 const SHOWN_VERSIONS: u64 = 1_000;
@@ -60,7 +60,8 @@ fn print_found<R: Print + AllocGlobal>(rt: &R, readers: u8, beside: &Beside) -> 
 }
 
 /// Prints what so many rounds take: to enter and leave by one reader with no writer, by 1, 2 and 3
-/// readers beside a writer, and to place versions beside 1, 8 and 64 idle readers.
+/// readers beside a writer, and to place versions beside 1, 8 and 64 idle readers; and then what index
+/// words take.
 fn time<R: Print + AllocGlobal + CpuClock + Threads + Wait + Sync>(
     rt: &R,
     rounds: u64,
@@ -77,7 +78,33 @@ fn time<R: Print + AllocGlobal + CpuClock + Threads + Wait + Sync>(
         let idle = run_idle(rt, rt.alloc(), readers, rounds)?;
         print_rate(rt, readers, &idle)?;
     }
-    Ok(())
+    time_words(rt, rounds)
+}
+
+/// Prints what a hit takes, what versions that give indexes again take, and what the count of all index
+/// words takes at tables of 4,096 to 32,768.
+fn time_words<R: Print + AllocGlobal + CpuClock>(rt: &R, rounds: u64) -> Result<(), Fault>
+    requires { rounds ≤ ROUNDS_MAX }
+{
+    let hits = rounds.min(HITS_MAX);
+    let time = time_hits(rt, rt.alloc(), hits)?;
+    let (nanos, tenth) = tenths(time.as_nanos(), u128::from(hits));
+    printed(println!(rt; "hitting 1: {nanos}.{tenth} ns to enter, hit and leave"))?;
+    for readers in [1, 8, 64u8] {
+        let time = time_turns(rt, rt.alloc(), readers, rounds)?;
+        let rate = a_second(rounds, time.as_nanos());
+        printed(println!(rt; "turning {readers}: {rounds} versions placed, {rate} a second"))?;
+    }
+    print_close(rt, 4_096, time_close::<R, 511>(rt, rt.alloc())?)?;
+    print_close(rt, 8_192, time_close::<R, 1023>(rt, rt.alloc())?)?;
+    print_close(rt, 16_384, time_close::<R, 2047>(rt, rt.alloc())?)?;
+    print_close(rt, 32_768, time_close::<R, 4095>(rt, rt.alloc())?)
+}
+
+/// Prints how long the count of so many index words took.
+fn print_close<R: Print + AllocGlobal>(rt: &R, words: u64, time: Duration) -> Result<(), Fault> {
+    let (nanos, tenth) = tenths(time.as_nanos(), u128::from(words));
+    printed(println!(rt; "closing {words}: {nanos}.{tenth} ns a word"))
 }
 
 /// Prints how long readers took to enter and leave, and how many versions were placed meanwhile.
@@ -88,11 +115,11 @@ fn print_time<R: Print + AllocGlobal>(
     beside: &Beside,
 ) -> Result<(), Fault> {
     let entered = beside.found.entered;
-    let (nanos, tenths) = tenths(beside.reads.as_nanos(), entered);
+    let (nanos, tenth) = tenths(beside.reads.as_nanos(), u128::from(entered));
     let rate = a_second(beside.placed, beside.places.as_nanos());
     let placed = beside.placed;
     printed(println!(rt;
-        "{kind} {readers}: {nanos}.{tenths} ns to enter and leave, {placed} versions placed, {rate} a second"
+        "{kind} {readers}: {nanos}.{tenth} ns to enter and leave, {placed} versions placed, {rate} a second"
     ))
 }
 
@@ -101,25 +128,6 @@ fn print_rate<R: Print + AllocGlobal>(rt: &R, readers: u8, idle: &Idle) -> Resul
     let rate = a_second(idle.placed, idle.time.as_nanos());
     let placed = idle.placed;
     printed(println!(rt; "idle {readers}: {placed} versions placed, {rate} a second"))
-}
-
-/// The fault of a print.
-fn printed(outcome: io::Result<()>) -> Result<(), Fault>
-    ensures { IfErr result IsPrintFault }
-{
-    match outcome {
-        Ok(()) => Ok(()),
-        Err(error) => Err(print_fault(&error)),
-    }
-}
-
-/// A quotient, cut off behind its first decimal: the whole part and the tenths. By 0 it divides as
-/// by 1.
-fn tenths(dividend: u128, divisor: u64) -> (u128, u128)
-    ensures { result.1 ≤ 9 }
-{
-    let all = dividend.saturating_mul(10) / u128::from(divisor).max(1);
-    (all / 10, all % 10)
 }
 
 /// How many a second it is, where so many take so many nanoseconds, which are 1 at least.

@@ -1,8 +1,8 @@
 ghost use Rattle.std.specs.Prelude.{◌≡◌, ◌+◌, ◌<◌, ◌≤◌, [], IfOk, IfErr, OnOk, length, All};
-ghost use Rattle.epoch_bench.specs.declared.fault.Fault.TheVariants.{OutOfMemory};
+ghost use Rattle.bench_kit.specs.declared.fault.Fault.TheVariants.{OutOfMemory};
 
-use crate::fault::Fault;
 use crate::stamp::{Control, Reader, Stamp};
+use bench_kit::Fault;
 use epoch_core::start;
 use std::alloc::Global;
 use std::sync::Arc;

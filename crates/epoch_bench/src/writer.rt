@@ -1,13 +1,13 @@
+//! What the control does.
 ghost use Rattle.std.specs.Prelude.{◌≡◌, ◌+◌, ◌<◌, ◌≤◌, IfOk, IfErr, OnOk, OnErr, length, All};
-ghost use Rattle.epoch_bench.specs.Fault.{IsRunFault};
+ghost use Rattle.bench_kit.specs.Fault.{IsRunFault};
 ghost use Rattle.epoch_bench.specs.Names.{no_names};
 ghost use Rattle.epoch_core.specs.Fresh.{AreFresh};
 ghost use Rattle.epoch_bench.specs.Reads.{Reaches, HasRoom};
 
 use crate::OutOfMemory;
-use crate::clock::cpu_time;
-use crate::fault::Fault;
 use crate::stamp::{Control, Stamp};
+use bench_kit::{Fault, cpu_time};
 use epoch_core::Copies;
 use std::alloc::Global;
 use std::sync::atomic::{AtomicBool, Ordering};

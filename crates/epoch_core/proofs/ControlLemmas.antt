@@ -13,7 +13,7 @@ use Rattle.epoch_core.specs.declared.view.View.{View}
 use Rattle.epoch_core.specs.declared.event.Event.TheVariants as event
 use Rattle.epoch_core.specs.History.{OneMore}
 use Rattle.epoch_core.specs.Step.{may_pass}
-use Rattle.epoch_core.specs.Rule.{slot_of, control_own, control_own_of, booked_of}
+use Rattle.epoch_core.specs.Rule.{slot_of, control_own, control_own_of, booked_of, index_word}
 use Rattle.epoch_core.specs.Plays.{reassigns, reassigned_control, scans, scanned_control, taken_places, filled_places, Each, StandsNext}
 use Rattle.epoch_core.specs.SeatViews.{IsControlSeat, IsBooked}
 use Rattle.epoch_core.specs.Fresh.{NamesFit}
@@ -98,7 +98,7 @@ pub record AfterReassign {Q C : Type 0} (s t : Seat (Option C) (View Q)) (i p fo
   pub room : booked_of (found / 4294967296) (control_own s).booked + found % 4294967296 ≤ 1073741824
   pub step : OneMore s.me.0.steps (event.Reassign i p) found t.me.0.steps
 
-pub after_reassign : {Q C : Type 0} (s t : Seat (Option C) (View Q)) (word new i p found : ℕ) → s.me.0.role ≡ Control (control_own s) → word ≡ 65 + i → new ≡ p * 4294967296 → reassigns word new s.me found t.me → AfterReassign s t i p found
+pub after_reassign : {Q C : Type 0} (s t : Seat (Option C) (View Q)) (word new i p found : ℕ) → s.me.0.role ≡ Control (control_own s) → word ≡ index_word i → new ≡ p * 4294967296 → reassigns word new s.me found t.me → AfterReassign s t i p found
 after_reassign s t word new i p found role e f did =
     let went = did.1 i p e f (control_own s) role in
     let own : control_own t ≡ reassigned_control i p found (control_own s) = ap (λ (v : View _). control_own_of v.role) went.0 in

@@ -23,7 +23,7 @@ use Rattle.epoch_core.specs.World as w
 use Rattle.epoch_core.specs.World.{World, Spot, home, control, opening, word_value}
 use Rattle.epoch_core.specs.Step.{are_distinct, each_among, all_passed, may_pass, passed_reader, scanned_reader, enabled, effect, step, run}
 use Rattle.epoch_core.specs.Sound.{Sound, PhaseFits, ReaderSound}
-use Rattle.epoch_core.specs.Rule.{Ended, slot_of, Owners, EndedFit, RoleFits, PartFits, PlaceHas, EpochRule}
+use Rattle.epoch_core.specs.Rule.{Ended, slot_of, Owners, EndedFit, RoleFits, PartFits, PlaceHas, EpochRule, announcement_word, index_word}
 use Rattle.epoch_core.specs.Follows.{Follows}
 use Rattle.epoch_core.specs.Plays.{Mine, view, ControlGoes, scans, publishes, Each, StandsNext, scanned_control, published_control, filled_places}
 use Rattle.epoch_core.specs.History.{OneMore, made_of, history, is_of_reader, is_of_control}
@@ -90,8 +90,8 @@ module _ {Q C : Type 0} (K G : ℕ) (two : 2 ≤ K) (lawful : Q → ℕ → C �
   pub control_step : (s : St) (h : Rule s) (e : Event) (x' : World) (b d : ControlOwn) (l : List Made) (words' : List ℕ) (homes' : Homes) (id : ℕ) → id ≡ h.owners.control_seat → PartFits (history K G h.world.readers h.events) (Control b) l → d.opened ≡ b.opened → d.ended ≡ b.ended
       → enabled K G h.world e ≡ true → effect K h.world e ≡ x' → is_of_control e ≡ true → ((r : ℕ) → is_of_reader r e ≡ false)
       → x'.readers ≡ h.world.readers → ((r : ℕ) → (x'.reader_at r).own ≡ (h.world.reader_at r).own) → x'.made ≡ h.world.made → x'.notes ≡ h.world.notes
-      → Sound K G x' → x'.cur < 4294967296 → length words' ≡ 65 + (G + 1) → length homes' ≡ 64 * K → get_or words' 0 0 ≡ x'.cur → ((r : ℕ) → r < x'.readers → get_or words' (1 + r) 0 ≡ (x'.reader_at r).ann)
-      → ((i : ℕ) → i ≤ G → get_or words' (65 + i) 0 ≡ word_value (x'.word_at i)) → ((u : ℕ) → u ≤ x'.cur → x'.pairs_at u ≡ names key u)
+      → Sound K G x' → x'.cur < 4294967296 → length words' ≡ 1040 + (G + 1) → length homes' ≡ 512 * K → get_or words' 0 0 ≡ x'.cur → ((r : ℕ) → r < x'.readers → get_or words' (announcement_word r) 0 ≡ (x'.reader_at r).ann)
+      → ((i : ℕ) → i ≤ G → get_or words' (index_word i) 0 ≡ word_value (x'.word_at i)) → ((u : ℕ) → u ≤ x'.cur → x'.pairs_at u ≡ names key u)
       → ((r b : ℕ) → r < x'.readers → b < K → PlaceHas lawful key ((x'.reader_at r).spot b) ((x'.reader_at r).held b) (get_elem? homes' (slot_of b r)))
       → RoleFits x' h.owners id (Control d) → (v : View Q) → v ≡ view key (Control d) (l ++ made_of (now_at K G h.world.readers h.events) h.world e ∷ []) → (h' : Rule record { words = words'; homes = homes'; views = set s.views id v }) × (h'.world ≡ step K G h.world e) × (h'.events ≡ h.events ++ e ∷ [])
   control_step s h e x' b d l words' homes' id mine part opened ended on goes its not_reader readers own made notes sound low wide deep cur ann index_words named places fits v is =
@@ -137,14 +137,14 @@ module _ {Q C : Type 0} (K G : ℕ) (two : 2 ≤ K) (lawful : Q → ℕ → C �
       → ((b : ℕ) → b < K → PlaceHas lawful key (y'.spot b) (y'.held b) (get_elem? homes' (slot_of b d.passed)))
       → ((q b : ℕ) → q < 64 → q ≢ d.passed → get_elem? homes' (slot_of b q) ≡ get_elem? s.homes (slot_of b q))
       → y'.passed ≡ nat_lt d.passed passed' → ((q : ℕ) → q ≢ d.passed → nat_lt q d.passed ≡ nat_lt q passed')
-      → (h' : Rule record { words = set s.words (1 + d.passed) (get_or s.words (1 + d.passed) 0); homes = homes'; views = set s.views id (view me.0.key (Control (record d { scans = d.scans + 1; found = (d.passed, get_or s.words (1 + d.passed) 0); passed = passed' })) (me.0.steps ++ made_of (now_at K G h.world.readers h.events) h.world (event.Scan d.passed) ∷ [])) })
+      → (h' : Rule record { words = set s.words (announcement_word d.passed) (get_or s.words (announcement_word d.passed) 0); homes = homes'; views = set s.views id (view me.0.key (Control (record d { scans = d.scans + 1; found = (d.passed, get_or s.words (announcement_word d.passed) 0); passed = passed' })) (me.0.steps ++ made_of (now_at K G h.world.readers h.events) h.world (event.Scan d.passed) ∷ [])) })
       × (h'.world ≡ step K G h.world (event.Scan d.passed)) × (h'.events ≡ h.events ++ event.Scan d.passed ∷ [])
   scan_step s h id me d homes' passed' y' same k part more is own ann deep here else_ mark marks =
       let x = h.world in
       let r : ℕ = d.passed in
       let y = x.reader_at r in
-      let n : ℕ = get_or s.words (1 + r) 0 in
-      let words = set-get_or s.words (1 + r) 0 in
+      let n : ℕ = get_or s.words (announcement_word r) 0 in
+      let words = set-get_or s.words (announcement_word r) 0 in
       let counts : d.readers ≡ x.readers = k.readers_are in
       let inside : r < x.readers = omega arith in
       let few = h.few in
@@ -153,23 +153,23 @@ module _ {Q C : Type 0} (K G : ℕ) (two : 2 ≤ K) (lawful : Q → ℕ → C �
       let word : n ≡ y.ann = h.ann_is r inside in
       let owns : (j : ℕ) → (x'.reader_at j).own ≡ (x.reader_at j).own = replaced_at_all (λ j z. z.own ≡ (x.reader_at j).own) x.reader_at r (scanned_reader K x.cur y) (ap (λ (z : w.Reader). z.own) is ∙ own) (λ j _. refl) in
       let l : List Made = me.0.steps ++ made_of (now_at K G x.readers h.events) x (event.Scan r) ∷ [] in
-      control_step s h (event.Scan r) x' d (record d { scans = d.scans + 1; found = (r, n); passed = passed' }) me.0.steps (set s.words (1 + r) n) homes' id k.its_seat part refl refl (may_scan K G x r inside unpassed) refl refl (λ q. refl) refl owns refl refl
+      control_step s h (event.Scan r) x' d (record d { scans = d.scans + 1; found = (r, n); passed = passed' }) me.0.steps (set s.words (announcement_word r) n) homes' id k.its_seat part refl refl (may_scan K G x r inside unpassed) refl refl (λ q. refl) refl owns refl refl
       (effect_sound K G two x (event.Scan r) h.sound (may_scan K G x r inside unpassed))
-      h.low (length-set s.words (1 + r) n ∙ h.wide) (deep ∙ h.deep) (ap (λ ws. get_or ws 0 0) words ∙ h.cur_is)
-      (replaced_at_all (λ j z. j < x.readers → get_or (set s.words (1 + r) n) (1 + j) 0 ≡ z.ann) x.reader_at r (scanned_reader K x.cur y)
-      (λ l. ap (λ ws. get_or ws (1 + r) 0) words ∙ (word ∙ (sym ann ∙ ap (λ (z : w.Reader). z.ann) (sym is)))) (λ j _ l. ap (λ ws. get_or ws (1 + j) 0) words ∙ h.ann_is j l))
-      (λ i l. ap (λ ws. get_or ws (65 + i) 0) words ∙ h.word_is i l) h.names_are
+      h.low (length-set s.words (announcement_word r) n ∙ h.wide) (deep ∙ h.deep) (ap (λ ws. get_or ws 0 0) words ∙ h.cur_is)
+      (replaced_at_all (λ j z. j < x.readers → get_or (set s.words (announcement_word r) n) (announcement_word j) 0 ≡ z.ann) x.reader_at r (scanned_reader K x.cur y)
+      (λ l. ap (λ ws. get_or ws (announcement_word r) 0) words ∙ (word ∙ (sym ann ∙ ap (λ (z : w.Reader). z.ann) (sym is)))) (λ j _ l. ap (λ ws. get_or ws (announcement_word j) 0) words ∙ h.ann_is j l))
+      (λ i l. ap (λ ws. get_or ws (index_word i) 0) words ∙ h.word_is i l) h.names_are
       (λ q b l e. replaced_at_all (λ j z. j < x.readers → PlaceHas lawful key (z.spot b) (z.held b) (get_elem? homes' (slot_of b j))) x.reader_at r (scanned_reader K x.cur y)
       (λ _. subst (λ (z : w.Reader). PlaceHas lawful key (z.spot b) (z.held b) (get_elem? homes' (slot_of b r))) (sym is) (here b e))
       (λ j a u. subst (PlaceHas lawful key ((x.reader_at j).spot b) ((x.reader_at j).held b)) (sym (else_ j b (omega arith) a)) (h.each_place j b u e)) q l) record { its_seat = k.its_seat; readers_are = k.readers_are; version_is = k.version_is; passed_are = replaced_at_all (λ j z. j < x.readers → z.passed ≡ nat_lt j passed') x.reader_at r (scanned_reader K x.cur y) (λ _. ap (λ (z : w.Reader). z.passed) is ∙ mark) (λ j a l. k.passed_are j l ∙ marks j a); scans_are = ap (λ (c : ℕ). c + 1) k.scans_are; found_is = (λ i. (r, word i)); made_are = k.made_are; opened_are = k.opened_are; unopened = (λ q l. (owns q ∙ (k.unopened q l).0, (k.unopened q l).1)); ended_fit = ended_fit_still x x' h.owners owns d.ended k.ended_fit; once = k.once; done_is = k.done_is; booked_are = k.booked_are; numbers_low = k.numbers_low; tally_fits = k.tally_fits }
       _ (ap (λ q. view q (Control (record d { scans = d.scans + 1; found = (r, n); passed = passed' })) l) same)
 
-  pub scanning : (slots id : ℕ) (me : Mine Q C) (d : ControlOwn) → me.0.role ≡ Control d → d.passed < d.readers → Follows K G lawful names key slots id me (1 + d.passed) (λ n. n) (scans lawful K me) (event.Scan d.passed)
+  pub scanning : (slots id : ℕ) (me : Mine Q C) (d : ControlOwn) → me.0.role ≡ Control d → d.passed < d.readers → Follows K G lawful names key slots id me (announcement_word d.passed) (λ n. n) (scans lawful K me) (event.Scan d.passed)
   scanning slots id me d is more s h _ at _ =
       let x = h.world in
       let r : ℕ = d.passed in
       let y = x.reader_at r in
-      let n : ℕ = get_or s.words (1 + r) 0 in
+      let n : ℕ = get_or s.words (announcement_word r) 0 in
       let seen = fits_at K G two lawful names key s h id me.0 (Control d) is at in
       let k = seen.1 in
       let counts : d.readers ≡ x.readers = k.readers_are in
@@ -187,8 +187,8 @@ module _ {Q C : Type 0} (K G : ℕ) (two : 2 ≤ K) (lawful : Q → ℕ → C �
       let low : n ≤ d.version + 1 = let l = ann_low K x.cur y (h.sound.each_reader r inside) in omega arith in
       let test : may_pass K d.version n ≡ may_pass K x.cur y.ann = λ j. may_pass K (version j) (word j) in
       let unpassed : y.passed ≡ false = k.passed_are r inside ∙ not_below r in
-      let go : (t : Bool) → may_pass K d.version n ≡ t → (v : View Q) × (a : Act (Option C)) × Valid s.homes me.1 a × ((h' : Rule (stepped s (1 + r) n id me.1 v a)) × (h'.world ≡ step K G x (event.Scan r)) × (h'.events ≡ h.events ++ event.Scan r ∷ [])) × scans lawful K me n (v, carried_after me.1 a) =
-      λ t. elim t as (λ t. may_pass K d.version n ≡ t → (v : View Q) × (a : Act (Option C)) × Valid s.homes me.1 a × ((h' : Rule (stepped s (1 + r) n id me.1 v a)) × (h'.world ≡ step K G x (event.Scan r)) × (h'.events ≡ h.events ++ event.Scan r ∷ [])) × scans lawful K me n (v, carried_after me.1 a)) [
+      let go : (t : Bool) → may_pass K d.version n ≡ t → (v : View Q) × (a : Act (Option C)) × Valid s.homes me.1 a × ((h' : Rule (stepped s (announcement_word r) n id me.1 v a)) × (h'.world ≡ step K G x (event.Scan r)) × (h'.events ≡ h.events ++ event.Scan r ∷ [])) × scans lawful K me n (v, carried_after me.1 a) =
+      λ t. elim t as (λ t. may_pass K d.version n ≡ t → (v : View Q) × (a : Act (Option C)) × Valid s.homes me.1 a × ((h' : Rule (stepped s (announcement_word r) n id me.1 v a)) × (h'.world ≡ step K G x (event.Scan r)) × (h'.events ≡ h.events ++ event.Scan r ∷ [])) × scans lawful K me n (v, carried_after me.1 a)) [
         | true ↦ λ e.
             let pass = sym test ∙ e in
             let free : y.spot b ≡ home = sound.at_home b near (λ z. not_next_bank K x.cur y two sound b y.own.phase (passed_phase_fits K x.cur y two sound y.own.phase refl pass) z refl) (λ z. true≢false (sym z.0 ∙ unpassed)) in
@@ -253,8 +253,8 @@ module _ {Q C : Type 0} (K G : ℕ) (two : 2 ≤ K) (lawful : Q → ℕ → C �
       let room : slot_of b (0 + length cs) ≤ length s.homes = omega arith in
       let done = control_step s h (event.Publish m) x' d (published_control d) me.0.steps (set s.words 0 n) homes' id k.its_seat seen.2 refl refl on refl refl (λ r. refl) refl (λ r. refl) refl refl (effect_sound K G two x (event.Publish m) h.sound on) (omega arith)
       (length-set s.words 0 n ∙ wide) (back_length s.homes b 0 cs ∙ deep) (get_or-set_same s.words 0 n 0 (omega arith) ∙ ap (λ (c : ℕ). c + 1) version)
-      (λ r l. get_or-set_other s.words 0 (1 + r) n 0 (λ e. omega arith) ∙ h.ann_is r l)
-      (λ i l. get_or-set_other s.words 0 (65 + i) n 0 (λ e. omega arith) ∙ h.word_is i l)
+      (λ r l. get_or-set_other s.words 0 (announcement_word r) n 0 (λ e. omega arith) ∙ h.ann_is r l)
+      (λ i l. get_or-set_other s.words 0 (index_word i) n 0 (λ e. omega arith) ∙ h.word_is i l)
       (replaced_at_all (λ u cs. u ≤ x.cur + 1 → cs ≡ names key u) x.pairs_at (x.cur + 1) m (λ _ i. names (seen.0 i) (version i + 1)) (λ u a l. h.names_are u (omega arith)))
       (λ r c l m. let y = x.reader_at r in dite (ℕ_discrete c b')
       (λ e. subst (λ (u : Spot × Option ℕ). PlaceHas lawful key u.0 u.1 (get_elem? homes' (slot_of c r))) (λ i. (sym (replaced_at_here y.spot b' c home e) i, sym (replaced_at_here y.held b' c (Some (x.cur + 1)) e) i))
@@ -271,9 +271,9 @@ module _ {Q C : Type 0} (K G : ℕ) (two : 2 ≤ K) (lawful : Q → ℕ → C �
       )
 
   -- the steps, as the table asks for them, where the word and the operand are equal to those above
-  pub scanning_at : (slots id i : ℕ) (me : Mine Q C) (d : ControlOwn) → me.0.role ≡ Control d → d.passed < d.readers → i ≡ 1 + d.passed → Allows Rule slots id me i (λ n. n) (scans lawful K me)
+  pub scanning_at : (slots id i : ℕ) (me : Mine Q C) (d : ControlOwn) → me.0.role ≡ Control d → d.passed < d.readers → i ≡ announcement_word d.passed → Allows Rule slots id me i (λ n. n) (scans lawful K me)
   scanning_at slots id i me d is more e =
-      subst (λ (u : ℕ). Allows Rule slots id me u (λ n. n) (scans lawful K me)) (sym e) (allows K G two lawful names key slots id me (1 + d.passed) (λ n. n) (scans lawful K me) (event.Scan d.passed) (scanning slots id me d is more))
+      subst (λ (u : ℕ). Allows Rule slots id me u (λ n. n) (scans lawful K me)) (sym e) (allows K G two lawful names key slots id me (announcement_word d.passed) (λ n. n) (scans lawful K me) (event.Scan d.passed) (scanning slots id me d is more))
 
   pub publishing_at : (slots id n : ℕ) (me : Mine Q C) (d : ControlOwn) (cs : List C) (b : ℕ) → me.0.role ≡ Control d → d.passed ≡ d.readers → me.1 ≡ filled_places b 0 cs → length cs ≡ d.readers
       → Each (lawful me.0.key n) cs → n < 4294967296 → are_distinct (names me.0.key n) ≡ true → each_among (names me.0.key n) (names me.0.key d.version) d.done ≡ true → n ≡ d.version + 1 → b ≡ n % K → Allows Rule slots id me 0 (λ _. n) (λ _ m'. publishes names me m')

@@ -11,7 +11,7 @@ use Rattle.epoch_core.specs.declared.view.Role.TheVariants.{Control}
 use Rattle.epoch_core.specs.declared.view.View.{View}
 use Rattle.epoch_core.specs.World.{World, Word, word_value}
 use Rattle.epoch_core.specs.Counts.{hits_of, counts_of, tallied_of, from_greatest}
-use Rattle.epoch_core.specs.Rule.{Ended, Owners, EndedFit, AreOnce, TallyFits, is_among, booked_of, EpochRule}
+use Rattle.epoch_core.specs.Rule.{Ended, Owners, EndedFit, AreOnce, TallyFits, is_among, booked_of, EpochRule, index_word}
 use Rattle.epoch_core.specs.Sums.{total, times, counted}
 use Rattle.epoch_core.proofs.EndedLemmas.{all_at_once}
 use Rattle.epoch_core.proofs.ReaderSteps.{fits_at}
@@ -50,7 +50,7 @@ module _ {Q C : Type 0} (K G : ℕ) (two : 2 ≤ K) (lawful : Q → ℕ → C �
   -- the sums, in any state in which the control has taken in as many seats as there are readers
   pub all_counted : (s : State (Option C) (View Q)) (h : EpochRule K G lawful names key s) (id : ℕ) (v : View Q) (d : ControlOwn)
       → get_elem? s.views id ≡ some v → v.role ≡ Control d → d.readers ≤ length d.ended
-      → (p : ℕ) → hits_of p d.ended ≡ booked_of p d.booked + total (λ i. counts_of p (get_or s.words (65 + i) 0)) (G + 1)
+      → (p : ℕ) → hits_of p d.ended ≡ booked_of p d.booked + total (λ i. counts_of p (get_or s.words (index_word i) 0)) (G + 1)
   all_counted s h id v d at is many p =
       let x = h.world in
       let k = (fits_at K G two lawful names key s h id v (Control d) is at).1 in
@@ -58,15 +58,15 @@ module _ {Q C : Type 0} (K G : ℕ) (two : 2 ≤ K) (lawful : Q → ℕ → C �
       let ended = ended_hits x h.owners p x.readers d.ended k.ended_fit k.once in
       let whole = total_same (hits_among x p d.ended) (λ r. times p (x.reader_at r).own.hits) x.readers
       (λ r l. let m = all_at_once x.readers d.ended k.once (omega arith) r l in rw m refl) in
-      let words = total_same (λ i. counted p (x.word_at i)) (λ i. counts_of p (get_or s.words (65 + i) 0)) (G + 1)
-      (λ i l. let small = count_is_small K G x h.sound h.few i (omega arith) in counted_is p (x.word_at i) (get_or s.words (65 + i) 0) (h.word_is i (omega arith)) (omega arith)) in
+      let words = total_same (λ i. counted p (x.word_at i)) (λ i. counts_of p (get_or s.words (index_word i) 0)) (G + 1)
+      (λ i l. let small = count_is_small K G x h.sound h.few i (omega arith) in counted_is p (x.word_at i) (get_or s.words (index_word i) 0) (h.word_is i (omega arith)) (omega arith)) in
       let sums = h.sound.index_words.sums p in
       let books = k.booked_are p in
       omega arith
 
   -- what is tallied of the indexes below n, the greatest first, is what their words hold
   tallied_whole : (s : State (Option C) (View Q)) (h : EpochRule K G lawful names key s) (p readers ended : ℕ) (cs : List (ℕ × ℕ)) (n : ℕ) → n ≤ G + 1 → map (λ c. c.0) cs ≡ from_greatest n → TallyFits h.world.word_at readers ended cs
-      → tallied_of p cs ≡ total (λ i. counts_of p (get_or s.words (65 + i) 0)) n
+      → tallied_of p cs ≡ total (λ i. counts_of p (get_or s.words (index_word i) 0)) n
   tallied_whole s h p readers ended [] zero l e t = refl
   tallied_whole s h p readers ended [] (suc n) l e t = let f : 0 ≡ suc (length (from_greatest n)) = ap (λ (xs : List ℕ). length xs) e in absurd (omega arith)
   tallied_whole s h p readers ended (c ∷ cs) zero l e t = let f : suc (length (map (λ (c : ℕ × ℕ). c.0) cs)) ≡ 0 = ap (λ (xs : List ℕ). length xs) e in absurd (omega arith)
@@ -74,7 +74,7 @@ module _ {Q C : Type 0} (K G : ℕ) (two : 2 ≤ K) (lawful : Q → ℕ → C �
       let first : c.0 ≡ n = ap (λ (xs : List ℕ). head_or n xs) e in
       let others : map (λ c. c.0) cs ≡ from_greatest n = ap (λ (xs : List ℕ). tail_of xs) e in
       let rest = tallied_whole s h p readers ended cs n (omega arith) others t.2 in
-      let here : c.1 ≡ get_or s.words (65 + n) 0 = sym t.1 ∙ (sym (h.word_is c.0 (omega arith)) ∙ ap (λ (i : ℕ). get_or s.words (65 + i) 0) first) in
+      let here : c.1 ≡ get_or s.words (index_word n) 0 = sym t.1 ∙ (sym (h.word_is c.0 (omega arith)) ∙ ap (λ (i : ℕ). get_or s.words (index_word i) 0) first) in
       λ i. counts_of p (here i) + rest i
     where
       head_or : ℕ → List ℕ → ℕ

@@ -20,7 +20,7 @@ use Rattle.epoch_core.specs.World as w
 use Rattle.epoch_core.specs.World.{World, Spot, home, reader, first_own, opening, word_value}
 use Rattle.epoch_core.specs.Step.{has_pair, replaced_at, moved, enabled, effect, step, looked_reader, announced_reader, entered_reader, left_reader, version_in_hand, looked_own, announced_own, entered_own, left_own}
 use Rattle.epoch_core.specs.Sound.{IsLatest, Sound}
-use Rattle.epoch_core.specs.Rule.{Ended, slot_of, Owners, EndedFit, RoleFits, KeyFits, PartFits, PlaceHas, EpochRule}
+use Rattle.epoch_core.specs.Rule.{Ended, slot_of, Owners, EndedFit, RoleFits, KeyFits, PartFits, PlaceHas, EpochRule, announcement_word, index_word}
 use Rattle.epoch_core.specs.Follows.{Follows}
 use Rattle.epoch_core.specs.Plays.{Mine, view, ReaderGoes, looks, announces, enters, leaves}
 use Rattle.epoch_core.specs.History.{OneMore, made_of, history, is_of_reader, is_of_control, readers_part}
@@ -97,7 +97,7 @@ module _ {Q C : Type 0} (K G : ℕ) (two : 2 ≤ K) (lawful : Q → ℕ → C �
       let it = value_at x.cur (y.spot b) (y.held b) (get_elem? s.homes i) free (held_is x.cur x.cur b (y.held b) (omega arith) (omega arith) refl (sound.versions b near)) (h.each_place r b inside near) in
       let homes' : Homes = set s.homes i none in
       let done = reader_step K G two lawful names key s h (event.Enter r) r o (entered_own n o) me.0.steps (entered_reader K x.cur) x.word_at (set s.words 0 n) homes' id k seen.2 (may_enter K G x r a k.0 stood) refl (is_mine r) (λ q n. is_not_mine r q n) refl (effect_sound K G two x (event.Enter r) h.sound (may_enter K G x r a k.0 stood)) (λ i. refl) (λ i. entered_own (sym cur i) (same i)) refl
-      (length-set s.words 0 n) (ap (λ ws. get_or ws 0 0) words) (ap (λ ws. get_or ws (1 + r) 0) words ∙ h.ann_is r k.0) (λ q _ _. ap (λ ws. get_or ws (1 + q) 0) words) (λ i l. ap (λ ws. get_or ws (65 + i) 0) words ∙ h.word_is i l)
+      (length-set s.words 0 n) (ap (λ ws. get_or ws 0 0) words) (ap (λ ws. get_or ws (announcement_word r) 0) words ∙ h.ann_is r k.0) (λ q _ _. ap (λ ws. get_or ws (announcement_word q) 0) words) (λ i l. ap (λ ws. get_or ws (index_word i) 0) words ∙ h.word_is i l)
       (length-set s.homes i none)
       (λ c m. replaced_at_all (λ j t. j < K → PlaceHas lawful key t (y.held j) (get_elem? homes' (slot_of j r))) y.spot b reader (λ _. set_here s.homes i none (omega arith))
       (λ j d l. subst (PlaceHas lawful key (y.spot j) (y.held j)) (sym (set_else s.homes i (slot_of j r) none (λ e. d (omega arith)))) (h.each_place r j inside l)) c m)
@@ -116,7 +116,7 @@ module _ {Q C : Type 0} (K G : ℕ) (two : 2 ≤ K) (lawful : Q → ℕ → C �
       )
 
   pub leaving : (slots id : ℕ) (me : Mine Q C) (r : ℕ) (o : Own) (a v : ℕ) (c : C) (cs : List (ℕ × Option C)) → me.0.role ≡ Reader r o → o.phase ≡ Holding a v → me.1 ≡ (slot_of (v % K) r, Some c) ∷ cs → lawful me.0.key v c
-      → Follows K G lawful names key slots id me (1 + r) (λ _. 0) (λ _ m'. leaves me m') (event.Leave r)
+      → Follows K G lawful names key slots id me (announcement_word r) (λ _. 0) (λ _ m'. leaves me m') (event.Leave r)
   leaving slots id me r o a u c cs is out holds_slot fair s h _ at _ =
       let x = h.world in
       let y = x.reader_at r in
@@ -142,9 +142,9 @@ module _ {Q C : Type 0} (K G : ℕ) (two : 2 ≤ K) (lawful : Q → ℕ → C �
       let bank : version_in_hand y.own.phase % K ≡ b = ap (λ z. version_in_hand z % K) held in
       let is_held : y.held b ≡ Some u = held_is x.cur u b (y.held b) (omega arith) phase.3 refl (sound.versions b near) in
       let back : PlaceHas lawful key home (y.held b) (get_elem? homes' i) = subst (λ z. PlaceHas lawful key home z (get_elem? homes' i)) (sym is_held) (Some c, set_here s.homes i (some (Some c)) (omega arith), (c, refl, subst (λ z. lawful z u c) seen.0 fair)) in
-      let done = reader_step K G two lawful names key s h (event.Leave r) r o (left_own o) me.0.steps (left_reader K) x.word_at (set s.words (1 + r) 0) homes' id k seen.2 (may_leave K G x r a u k.0 held) refl (is_mine r) (λ q n. is_not_mine r q n) refl (effect_sound K G two x (event.Leave r) h.sound (may_leave K G x r a u k.0 held)) (λ i. refl) (ap left_own same) refl
-      (length-set s.words (1 + r) 0) (get_or-set_other s.words (1 + r) 0 0 0 (λ e. omega arith)) (get_or-set_same s.words (1 + r) 0 0 (omega arith))
-      (λ q _ d. get_or-set_other s.words (1 + r) (1 + q) 0 0 (λ e. d (omega arith))) (λ i l. get_or-set_other s.words (1 + r) (65 + i) 0 0 (λ e. omega arith) ∙ h.word_is i l)
+      let done = reader_step K G two lawful names key s h (event.Leave r) r o (left_own o) me.0.steps (left_reader K) x.word_at (set s.words (announcement_word r) 0) homes' id k seen.2 (may_leave K G x r a u k.0 held) refl (is_mine r) (λ q n. is_not_mine r q n) refl (effect_sound K G two x (event.Leave r) h.sound (may_leave K G x r a u k.0 held)) (λ i. refl) (ap left_own same) refl
+      (length-set s.words (announcement_word r) 0) (get_or-set_other s.words (announcement_word r) 0 0 0 (λ e. omega arith)) (get_or-set_same s.words (announcement_word r) 0 0 (omega arith))
+      (λ q _ d. get_or-set_other s.words (announcement_word r) (announcement_word q) 0 0 (λ e. d (omega arith))) (λ i l. get_or-set_other s.words (announcement_word r) (index_word i) 0 0 (λ e. omega arith) ∙ h.word_is i l)
       (length-set s.homes i (some (Some c)))
       (λ j m. subst (λ z. PlaceHas lawful key (replaced_at y.spot z home j) (y.held j) (get_elem? homes' (slot_of j r))) (sym bank)
       (replaced_at_all (λ j t. j < K → PlaceHas lawful key t (y.held j) (get_elem? homes' (slot_of j r))) y.spot b home (λ _. back)
@@ -153,7 +153,7 @@ module _ {Q C : Type 0} (K G : ℕ) (two : 2 ≤ K) (lawful : Q → ℕ → C �
         v,
         gives,
         tt,
-        subst (λ (ls : List (ℕ × Option C)). (h' : Rule (stepped s (1 + r) 0 id ls v gives)) × (h'.world ≡ step K G x (event.Leave r)) × (h'.events ≡ h.events ++ event.Leave r ∷ [])) (sym holds_slot) done,
+        subst (λ (ls : List (ℕ × Option C)). (h' : Rule (stepped s (announcement_word r) 0 id ls v gives)) × (h'.world ≡ step K G x (event.Leave r)) × (h'.events ≡ h.events ++ event.Leave r ∷ [])) (sym holds_slot) done,
         (refl, reader_goes K G two lawful names key me (v, rest me.1) r o (left_own o) (λ z. event.Leave z) (λ _. 0) (λ _ z p. p ≡ left_own z) is refl refl (t + 1, refl)),
       )
 
@@ -161,6 +161,6 @@ module _ {Q C : Type 0} (K G : ℕ) (two : 2 ≤ K) (lawful : Q → ℕ → C �
   may_take slots id me r o a is out = allows K G two lawful names key slots id me 0 (λ n. n) (enters lawful names K G me) (event.Enter r) (entering slots id me r o a is out)
 
   pub leaving_at : (slots id i : ℕ) (me : Mine Q C) (r : ℕ) (o : Own) (a v : ℕ) (c : C) (cs : List (ℕ × Option C)) → me.0.role ≡ Reader r o → o.phase ≡ Holding a v → me.1 ≡ (slot_of (v % K) r, Some c) ∷ cs → lawful me.0.key v c
-      → i ≡ 1 + r → Allows Rule slots id me i (λ _. 0) (λ _ m'. leaves me m')
+      → i ≡ announcement_word r → Allows Rule slots id me i (λ _. 0) (λ _ m'. leaves me m')
   leaving_at slots id i me r o a v c cs is out slots_are fair e =
-      subst (λ (u : ℕ). Allows Rule slots id me u (λ _. 0) (λ _ m'. leaves me m')) (sym e) (allows K G two lawful names key slots id me (1 + r) (λ _. 0) (λ _ m'. leaves me m') (event.Leave r) (leaving slots id me r o a v c cs is out slots_are fair))
+      subst (λ (u : ℕ). Allows Rule slots id me u (λ _. 0) (λ _ m'. leaves me m')) (sym e) (allows K G two lawful names key slots id me (announcement_word r) (λ _. 0) (λ _ m'. leaves me m') (event.Leave r) (leaving slots id me r o a v c cs is out slots_are fair))

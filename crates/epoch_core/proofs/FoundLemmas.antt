@@ -52,7 +52,7 @@ of_part p x (m ∷ ms) has = go (p m.event) refl has (λ h. of_part p x ms h)
     go false is h rest = let r = rest h in (inr r.0, r.1)
 
 -- an event is on no word and isn't counted, or it is on the next
-places : (n : ℕ) (e : Event) → ((place_of n e ≡ 0) × (counted n e ≡ n)) ⊎ ((place_of n e ≡ n + 1) × (counted n e ≡ n + 1))
+pub places : (n : ℕ) (e : Event) → ((place_of n e ≡ 0) × (counted n e ≡ n)) ⊎ ((place_of n e ≡ n + 1) × (counted n e ≡ n + 1))
 places n (Look r) = inr (refl, refl)
 places n (Announce r) = inr (refl, refl)
 places n (Enter r) = inr (refl, refl)
@@ -111,7 +111,7 @@ abbrev head_or : Made → List Made → Made
 head_or d [] = d
 head_or d (x ∷ xs) = x
 
-above_0 : (n : ℕ) → n ≢ 0 → 0 < n
+pub above_0 : (n : ℕ) → n ≢ 0 → 0 < n
 above_0 zero w = absurd (w refl)
 above_0 (suc n) w = omega arith
 
@@ -215,3 +215,27 @@ module _ (K G : ℕ) (V : World → ℕ) (p : Event → Bool) (upd : ℕ → Eve
           number ∙ (sym none ∙ sym (ap (λ (t : Bool). last (V w) (if t then made_of n w e ∷ part rest else part rest)) skips))
       go true on (inr h) after a b = a h (λ y z. after y (inr z)) ∙ sym (one_step n w e (made K G (counted n e) (step K G w e) es) on)
       go false off h after a b = b h after ∙ ap (λ z. last z (part (made K G n (step K G w e) es))) (sym (no_step w e off))
+
+  -- a step that reads the number and is the last of the part found what the others of the part lead to
+  pub found_last : (n : ℕ) (w : World) (es : List Event) (A : List Made) (X : Made) → part (made K G n w es) ≡ A ++ X ∷ [] → ((w : World) → number_of w X.event ≡ V w) → X.number ≡ last (V w) A
+  found_last n w [] [] X is reads = let l = ap (λ (z : List Made). length z) is in absurd (omega arith)
+  found_last n w [] (a ∷ A) X is reads = let l = ap (λ (z : List Made). length z) is in absurd (omega arith)
+  found_last n w (e ∷ es) A X is reads =
+      go (enabled K G w e) refl A is (λ B f. found_last (counted n e) (step K G w e) es B X f reads) (λ B f. found_last n (step K G w e) es B X f reads)
+    where
+      after : (t : Bool) (A rest : List Made) → (if t then made_of n w e ∷ part rest else part rest) ≡ A ++ X ∷ [] → V (step K G w e) ≡ (if t then upd (V w) e (number_of w e) else V w)
+          → ((B : List Made) → part rest ≡ B ++ X ∷ [] → X.number ≡ last (V (step K G w e)) B) → X.number ≡ last (V w) A
+      after false A rest is to a = a A is ∙ ap (λ z. last z A) to
+      after true [] rest is to a =
+          let same : made_of n w e ≡ X = ap (λ (z : List Made). head_or X z) is in
+          ap (λ (z : Made). z.number) (sym same) ∙ (ap (λ (z : Made). number_of w z.event) same ∙ reads w)
+      after true (x ∷ A) rest is to a =
+          let same : made_of n w e ≡ x = ap (λ (z : List Made). head_or x z) is in
+          a A (ap tail_of is) ∙ (ap (λ z. last z A) to ∙ ap (λ (z : Made). last (upd (V w) z.event z.number) A) same)
+
+      go : (t : Bool) → enabled K G w e ≡ t → (A : List Made) → part (if t then made_of n w e ∷ made K G (counted n e) (step K G w e) es else made K G n (step K G w e) es) ≡ A ++ X ∷ []
+          → ((B : List Made) → part (made K G (counted n e) (step K G w e) es) ≡ B ++ X ∷ [] → X.number ≡ last (V (step K G w e)) B)
+          → ((B : List Made) → part (made K G n (step K G w e) es) ≡ B ++ X ∷ [] → X.number ≡ last (V (step K G w e)) B)
+          → X.number ≡ last (V w) A
+      go true on A is a b = after (p e) A (made K G (counted n e) (step K G w e) es) is (ap V (sym (takes_effect K G w e on)) ∙ moves w e on) a
+      go false off A is a b = b A is ∙ ap (λ z. last z A) (sym (no_step w e off))

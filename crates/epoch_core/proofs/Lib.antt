@@ -6,6 +6,7 @@ pub mod CountLemmas
 pub mod EndedLemmas
 pub mod EntrySteps
 pub mod FoundLemmas
+pub mod FoundWordLemmas
 pub mod FreshLemmas
 pub mod HistoryLemmas
 pub mod PlainLemmas

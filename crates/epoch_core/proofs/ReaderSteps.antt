@@ -20,7 +20,7 @@ use Rattle.epoch_core.specs.World as w
 use Rattle.epoch_core.specs.World.{World, Spot, home, reader, first_own, opening, word_value}
 use Rattle.epoch_core.specs.Step.{has_pair, replaced_at, moved, enabled, effect, step, looked_reader, announced_reader, entered_reader, left_reader, version_in_hand, looked_own, announced_own, entered_own, left_own}
 use Rattle.epoch_core.specs.Sound.{IsLatest, Sound}
-use Rattle.epoch_core.specs.Rule.{Ended, slot_of, Owners, EndedFit, RoleFits, KeyFits, PartFits, PlaceHas, EpochRule}
+use Rattle.epoch_core.specs.Rule.{Ended, slot_of, Owners, EndedFit, RoleFits, KeyFits, PartFits, PlaceHas, EpochRule, announcement_word, index_word}
 use Rattle.epoch_core.specs.Follows.{Follows}
 use Rattle.epoch_core.specs.Plays.{Mine, view, ReaderGoes, looks, announces, enters, leaves}
 use Rattle.epoch_core.specs.History.{OneMore, made_of, history, is_of_reader, is_of_control, readers_part}
@@ -90,8 +90,8 @@ module _ {Q C : Type 0} (K G : ℕ) (two : 2 ≤ K) (lawful : Q → ℕ → C �
       → enabled K G h.world e ≡ true → effect K h.world e ≡ record (moved h.world r f) { word_at = word_at' } → is_of_reader r e ≡ true → ((q : ℕ) → q ≢ r → is_of_reader q e ≡ false) → is_of_control e ≡ false
       → Sound K G (record (moved h.world r f) { word_at = word_at' }) → ((i : ℕ) → (word_at' i).number ≡ (h.world.word_at i).number)
       → (f (h.world.reader_at r)).own ≡ p → (f (h.world.reader_at r)).passed ≡ (h.world.reader_at r).passed
-      → length words' ≡ length s.words → get_or words' 0 0 ≡ get_or s.words 0 0 → get_or words' (1 + r) 0 ≡ (f (h.world.reader_at r)).ann → ((q : ℕ) → q < 64 → q ≢ r → get_or words' (1 + q) 0 ≡ get_or s.words (1 + q) 0)
-      → ((i : ℕ) → i ≤ G → get_or words' (65 + i) 0 ≡ word_value (word_at' i))
+      → length words' ≡ length s.words → get_or words' 0 0 ≡ get_or s.words 0 0 → get_or words' (announcement_word r) 0 ≡ (f (h.world.reader_at r)).ann → ((q : ℕ) → q < 64 → q ≢ r → get_or words' (announcement_word q) 0 ≡ get_or s.words (announcement_word q) 0)
+      → ((i : ℕ) → i ≤ G → get_or words' (index_word i) 0 ≡ word_value (word_at' i))
       → length homes' ≡ length s.homes → ((b : ℕ) → b < K → PlaceHas lawful key ((f (h.world.reader_at r)).spot b) ((f (h.world.reader_at r)).held b) (get_elem? homes' (slot_of b r)))
       → ((q b : ℕ) → q < 64 → q ≢ r → get_elem? homes' (slot_of b q) ≡ get_elem? s.homes (slot_of b q))
       → (v : View Q) → v ≡ view key (Reader r p) (l ++ made_of (now_at K G h.world.readers h.events) h.world e ∷ [])
@@ -117,7 +117,7 @@ module _ {Q C : Type 0} (K G : ℕ) (two : 2 ≤ K) (lawful : Q → ℕ → C �
           wide = wide ∙ h.wide;
           deep = deep ∙ h.deep;
           cur_is = cur ∙ h.cur_is;
-          ann_is = replaced_at_all (λ q z. q < x.readers → get_or words' (1 + q) 0 ≡ z.ann) x.reader_at r y (λ _. ann_here) (λ q n l. ann_else q (omega arith) n ∙ h.ann_is q l);
+          ann_is = replaced_at_all (λ q z. q < x.readers → get_or words' (announcement_word q) 0 ≡ z.ann) x.reader_at r y (λ _. ann_here) (λ q n l. ann_else q (omega arith) n ∙ h.ann_is q l);
           word_is = index_words;
           names_are = h.names_are;
           each_view = views_after (λ j d. Says key x' h.owners ms' j d) s.views id v
@@ -164,7 +164,7 @@ module _ {Q C : Type 0} (K G : ℕ) (two : 2 ≤ K) (lawful : Q → ℕ → C �
       let low' : o.seen ≤ x.cur = subst (λ (u : Own). u.seen ≤ x.cur) same low.1 in
       let cur = h.cur_is in
       let done = reader_step s h (event.Look r) r o (looked_own n o) me.0.steps (looked_reader x.cur) x.word_at (set s.words 0 n) s.homes id k seen.2 (may_look K G x r k.0 idle) refl (is_mine r) (λ q n. is_not_mine r q n) refl (effect_sound K G two x (event.Look r) h.sound (may_look K G x r k.0 idle)) (λ i. refl) (λ i. looked_own (sym h.cur_is i) (same i)) refl
-      (length-set s.words 0 n) (ap (λ ws. get_or ws 0 0) words) (ap (λ ws. get_or ws (1 + r) 0) words ∙ h.ann_is r k.0) (λ q _ _. ap (λ ws. get_or ws (1 + q) 0) words) (λ i l. ap (λ ws. get_or ws (65 + i) 0) words ∙ h.word_is i l)
+      (length-set s.words 0 n) (ap (λ ws. get_or ws 0 0) words) (ap (λ ws. get_or ws (announcement_word r) 0) words ∙ h.ann_is r k.0) (λ q _ _. ap (λ ws. get_or ws (announcement_word q) 0) words) (λ i l. ap (λ ws. get_or ws (index_word i) 0) words ∙ h.word_is i l)
       refl (λ b m. h.each_place r b k.0 m) (λ q b _ _. refl) v (ap (λ q. view q (Reader r (looked_own n o)) l) seen.0) in (
         v,
         keeps,
@@ -173,7 +173,7 @@ module _ {Q C : Type 0} (K G : ℕ) (two : 2 ≤ K) (lawful : Q → ℕ → C �
         (subst (λ z. z < 4294967296) (sym cur) h.low, refl, reader_goes me (v, me.1) r o (looked_own n o) (λ z. event.Look z) (λ _. n) (λ _ a b. (b ≡ looked_own n a) × (a.seen ≤ n)) is refl (refl, omega arith) (t + 1, λ i. me.0.steps ++ record { at = t + 1; event = event.Look r; number = sym cur i } ∷ [])),
       )
 
-  pub announcing : (slots id : ℕ) (me : Mine Q C) (r : ℕ) (o : Own) → me.0.role ≡ Reader r o → o.phase ≡ Idle → Follows K G lawful names key slots id me (1 + r) (λ _. o.last + 1) (λ _ m'. announces me m') (event.Announce r)
+  pub announcing : (slots id : ℕ) (me : Mine Q C) (r : ℕ) (o : Own) → me.0.role ≡ Reader r o → o.phase ≡ Idle → Follows K G lawful names key slots id me (announcement_word r) (λ _. o.last + 1) (λ _ m'. announces me m') (event.Announce r)
   announcing slots id me r o is out s h _ at _ =
       let x = h.world in
       let y = x.reader_at r in
@@ -189,9 +189,9 @@ module _ {Q C : Type 0} (K G : ℕ) (two : 2 ≤ K) (lawful : Q → ℕ → C �
       let few = h.few in
       let wide = h.wide in
       let inside = k.0 in
-      let done = reader_step s h (event.Announce r) r o (announced_own o) me.0.steps announced_reader x.word_at (set s.words (1 + r) n) s.homes id k seen.2 (may_announce K G x r k.0 idle) refl (is_mine r) (λ q n. is_not_mine r q n) refl (effect_sound K G two x (event.Announce r) h.sound (may_announce K G x r k.0 idle)) (λ i. refl) (ap announced_own same) refl
-      (length-set s.words (1 + r) n) (get_or-set_other s.words (1 + r) 0 n 0 (λ e. omega arith)) (get_or-set_same s.words (1 + r) n 0 (omega arith) ∙ ap (λ (u : Own). u.last + 1) (sym same))
-      (λ q _ d. get_or-set_other s.words (1 + r) (1 + q) n 0 (λ e. d (omega arith))) (λ i l. get_or-set_other s.words (1 + r) (65 + i) n 0 (λ e. omega arith) ∙ h.word_is i l)
+      let done = reader_step s h (event.Announce r) r o (announced_own o) me.0.steps announced_reader x.word_at (set s.words (announcement_word r) n) s.homes id k seen.2 (may_announce K G x r k.0 idle) refl (is_mine r) (λ q n. is_not_mine r q n) refl (effect_sound K G two x (event.Announce r) h.sound (may_announce K G x r k.0 idle)) (λ i. refl) (ap announced_own same) refl
+      (length-set s.words (announcement_word r) n) (get_or-set_other s.words (announcement_word r) 0 n 0 (λ e. omega arith)) (get_or-set_same s.words (announcement_word r) n 0 (omega arith) ∙ ap (λ (u : Own). u.last + 1) (sym same))
+      (λ q _ d. get_or-set_other s.words (announcement_word r) (announcement_word q) n 0 (λ e. d (omega arith))) (λ i l. get_or-set_other s.words (announcement_word r) (index_word i) n 0 (λ e. omega arith) ∙ h.word_is i l)
       refl (λ b m. h.each_place r b k.0 m) (λ q b _ _. refl) v (ap (λ q. view q (Reader r (announced_own o)) l) seen.0) in (
         v,
         keeps,
@@ -208,6 +208,6 @@ module _ {Q C : Type 0} (K G : ℕ) (two : 2 ≤ K) (lawful : Q → ℕ → C �
   pub may_load : (slots id : ℕ) (me : Mine Q C) (r : ℕ) (o : Own) → me.0.role ≡ Reader r o → o.phase ≡ Idle → Allows Rule slots id me 0 (λ n. n) (looks me)
   may_load slots id me r o is out = allows slots id me 0 (λ n. n) (looks me) (event.Look r) (looking slots id me r o is out)
 
-  pub announcing_at : (slots id i n : ℕ) (me : Mine Q C) (r : ℕ) (o : Own) → me.0.role ≡ Reader r o → o.phase ≡ Idle → i ≡ 1 + r → n ≡ o.last + 1 → Allows Rule slots id me i (λ _. n) (λ _ m'. announces me m')
+  pub announcing_at : (slots id i n : ℕ) (me : Mine Q C) (r : ℕ) (o : Own) → me.0.role ≡ Reader r o → o.phase ≡ Idle → i ≡ announcement_word r → n ≡ o.last + 1 → Allows Rule slots id me i (λ _. n) (λ _ m'. announces me m')
   announcing_at slots id i n me r o is out a b =
-      subst (λ (u : ℕ × ℕ). Allows Rule slots id me u.0 (λ _. u.1) (λ _ m'. announces me m')) (λ j. (sym a j, sym b j)) (allows slots id me (1 + r) (λ _. o.last + 1) (λ _ m'. announces me m') (event.Announce r) (announcing slots id me r o is out))
+      subst (λ (u : ℕ × ℕ). Allows Rule slots id me u.0 (λ _. u.1) (λ _ m'. announces me m')) (λ j. (sym a j, sym b j)) (allows slots id me (announcement_word r) (λ _. o.last + 1) (λ _ m'. announces me m') (event.Announce r) (announcing slots id me r o is out))

@@ -6,10 +6,10 @@ use Rattle.epoch_core.specs.declared.view.Role.TheVariants.{Reader, Control}
 use Rattle.std.specs.Prelude.{slice_index}
 use Rattle.atomic_table.specs.Table.{stepped}
 use Rattle.epoch_core.specs.Follows.{JoinFollows}
-use Rattle.epoch_core.specs.Plays.{learnt, learning_step, ending, scanned_control}
+use Rattle.epoch_core.specs.Plays.{learnt, learning_step, ending, scanned_control, reassigned_control}
 use Rattle.epoch_core.specs.Running.{EachStepFollows}
 use Rattle.epoch_core.specs.Step.{step}
-use Rattle.epoch_core.proofs.TruthLemmas.{true_scan, true_look, true_enter}
+use Rattle.epoch_core.proofs.TruthLemmas.{true_scan, true_look, true_enter, true_hit, true_reassign}
 use Rattle.epoch_core.proofs.ClosingLemmas.{closing, none_left}
 use Rattle.epoch_core.proofs.CountLemmas.{all_counted}
 use Rattle.epoch_core.proofs.ControlSteps.{scanning, publishing}
@@ -17,6 +17,7 @@ use Rattle.epoch_core.proofs.EntrySteps.{entering, leaving}
 use Rattle.epoch_core.proofs.ReaderSteps.{fits_at, looking, announcing}
 use Rattle.epoch_core.proofs.WordSteps.{hitting, reassigning, tallying, tallied_true}
 use Rattle.epoch_core.proofs.SeatSteps.{opens, tells, learns, ends}
+use Rattle.epoch_core.specs.Rule.{announcement_word, index_word}
 
 pub each_step_follows : {Q C : Type 0} (K G : ℕ) (two : 2 ≤ K) (lawful : Q → ℕ → C → Type 0) (names : Q → ℕ → List (ℕ × ℕ)) (key : Q) → EachStepFollows K G lawful names key
 each_step_follows K G two lawful names key = record {
@@ -29,12 +30,14 @@ each_step_follows K G two lawful names key = record {
   true_scan = λ s s' id v v' d d' r n go is is' l one. true_scan K G two lawful names key s s' go.before go.after go.seated id v v' go.there go.now d d' r one.0 n is is' l one.1;
   true_look = λ s s' id v v' o o' r n go is is' one. true_look K G two lawful names key s s' go.before go.after go.seated id v v' go.there go.now r o o' one.0 n is is' one.1;
   true_enter = λ s s' id v v' o o' r n go is is' one. true_enter K G two lawful names key s s' go.before go.after go.seated id v v' go.there go.now r o o' one.0 n is is' one.1;
+  true_hit = λ s s' id v v' o o' r i n go is is' one. true_hit K G two lawful names key s s' go.before go.after go.seated id v v' go.there go.now r i o o' one.0 n is is' one.1;
+  true_reassign = λ s s' id v v' d d' i p n go is is' one. true_reassign K G two lawful names key s s' go.before go.after go.seated id v v' go.there go.now d d' i p one.0 n is is' one.1;
   no_feigned_scan = λ slots id g me d is more may s h seated deep at small.
-      let n : ℕ = slice_index s.words (1 + d.passed) in
+      let n : ℕ = slice_index s.words (announcement_word d.passed) in
       let r = may s h deep at small in
       let told = r.4 d is in
       let inside : d.passed < h.world.readers = let e = (fits_at K G two lawful names key s h id me.0 (Control d) is at).1.readers_are in omega arith in
-      let s' = stepped s (1 + d.passed) n id me.1 r.0 r.1 in
+      let s' = stepped s (announcement_word d.passed) n id me.1 r.0 r.1 in
       true_scan K G two lawful names key s s' h r.3 seated id me.0 r.0 at refl d (scanned_control K (g n) d) d.passed told.1.3.0 (g n) is (ap (λ v. v.role) told.0) inside told.1.3.1;
   no_feigned_look = λ slots id r g me o is may s h seated deep at small.
       let n : ℕ = slice_index s.words 0 in
@@ -46,6 +49,16 @@ each_step_follows K G two lawful names key = record {
       let did = may s h deep at small in
       let told = did.4.1 r o is in
       true_enter K G two lawful names key s (stepped s 0 n id me.1 did.0 did.1) h did.3 seated id me.0 did.0 at refl r o told.0 told.3.0 (g n) is (ap (λ v. v.role) told.1) told.3.1;
+  no_feigned_hit = λ slots id r i f g me o is may s h seated deep at small.
+      let n : ℕ = slice_index s.words (index_word i) in
+      let did = may s h deep at small in
+      let told = did.4.1 i refl r o is in
+      true_hit K G two lawful names key s (stepped s (index_word i) (f n) id me.1 did.0 did.1) h did.3 seated id me.0 did.0 at refl r i o told.0 told.3.0 (g n) is (ap (λ v. v.role) told.1) told.3.1;
+  no_feigned_reassign = λ slots id i p f g me d is may s h seated deep at small.
+      let n : ℕ = slice_index s.words (index_word i) in
+      let did = may s h deep at small in
+      let told = did.4.1 i p refl refl d is in
+      true_reassign K G two lawful names key s (stepped s (index_word i) (f n) id me.1 did.0 did.1) h did.3 seated id me.0 did.0 at refl d (reassigned_control i p (g n) d) i p told.1.2.0 (g n) is (ap (λ v. v.role) told.0) told.1.2.1;
   look = λ slots id r me o is out. looking K G two lawful names key slots id me r o is out;
   announce = λ slots id r me o is out. announcing K G two lawful names key slots id me r o is out;
   enter = λ slots id r a me o is out. entering K G two lawful names key slots id me r o a is out;

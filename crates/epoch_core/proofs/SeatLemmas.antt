@@ -12,14 +12,14 @@ use Rattle.epoch_core.specs.declared.event.Event.TheVariants as event
 use Rattle.epoch_core.specs.History.{OneMore}
 use Rattle.epoch_core.specs.Step.{looked_own, announced_own, entered_own, left_own, hit_own, has_index, has_pair, version_in_hand}
 use Rattle.prefix_width.specs.Limits.{last_index}
-use Rattle.epoch_core.specs.Rule.{IsSized, slot_of, own, own_of, as_reader}
+use Rattle.epoch_core.specs.Rule.{IsSized, slot_of, own, own_of, as_reader, index_word}
 use Rattle.epoch_core.specs.Plays.{Mine, view, looks, announces, enters, leaves, hits}
 use Rattle.epoch_core.specs.SeatViews.{IsReadersSeat}
 
-pub word_room : (K live : ℕ) (z y : TableId) → IsSized K live z → z ≡ y → (n : ℕ) → n < 65 + (last_index K live + 1) → n < y.words
+pub word_room : (K live : ℕ) (z y : TableId) → IsSized K live z → z ≡ y → (n : ℕ) → n < 1040 + (last_index K live + 1) → n < y.words
 word_room K live z y sized e n l = subst (λ (k : ℕ). n < k) (sym (ap (λ (u : TableId). u.words) (sym e) ∙ sized.1)) l
 
-pub room : (K live : ℕ) (z y : TableId) → IsSized K live z → z ≡ y → (n : ℕ) → n < 65 → n < y.words
+pub room : (K live : ℕ) (z y : TableId) → IsSized K live z → z ≡ y → (n : ℕ) → n < 1040 → n < y.words
 room K live z y sized e n l = let G : ℕ = last_index K live in word_room K live z y sized e n (omega arith)
 
 module _ {Q C : Type 0} where
@@ -71,7 +71,7 @@ module _ {Q C : Type 0} where
     after_enters lawful names G found did = let went = did.1 r (own s) (role_of K live s z q r cs was) in let got = went.2.2 in
         (got.0, after K live s t z q r cs _ (entered_own found (own s)) was same (went.1 ∙ ap (λ (p : Own). view s.me.0.key (Reader r p) t.me.0.steps) went.2.0) (got.1 ∙ ap (λ l. (slot_of (found % K) r, Some got.0) ∷ l) (carries K live s z q r cs was)), got.2, went.2.1, went.3, did.2)
 
-    pub after_hits : (names : Q → ℕ → List (ℕ × ℕ)) (word found i : ℕ) → word ≡ 65 + i → hits names word s.me found t.me
+    pub after_hits : (names : Q → ℕ → List (ℕ × ℕ)) (word found i : ℕ) → word ≡ index_word i → hits names word s.me found t.me
         → After K live s t z q r cs (hit_own (found / 4294967296) (own s)) × ((p : ℕ) → has_pair i p (names s.me.0.key (version_in_hand (own s).phase)) ≡ true → found / 4294967296 ≡ p) × OneMore s.me.0.steps (event.Hit r i) found t.me.0.steps
     after_hits names word found i e did = let went = did.1 i e r (own s) (role_of K live s z q r cs was) in
         (after K live s t z q r cs cs (hit_own (found / 4294967296) (own s)) was same (went.1 ∙ ap (λ (p : Own). view s.me.0.key (Reader r p) t.me.0.steps) went.2.0) (did.0 ∙ carries K live s z q r cs was), went.2.1, went.3)

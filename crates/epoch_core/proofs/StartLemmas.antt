@@ -1,5 +1,5 @@
 -- The table at the start meets the rule.
-use Rattle.std.proofs.Common.{◌≡◌, ℕ, zero, suc, ◌+◌, ◌*◌, ◌<◌, ◌≤◌, false, List, [], ◌∷◌, ◌++◌, map, length, length-append, get_or, replicate, Option, Some, None, refl, sym, ap, ◌∙◌, subst, arith, lit≤, lit<}
+use Rattle.std.proofs.Common.{◌≡◌, ◌≢◌, ℕ, zero, suc, ◌+◌, ◌*◌, ◌%◌, ◌<◌, ◌≤◌, Bool, true, false, ◌&&◌, ◌==◌, nat_lt, eq-eqb, List, [], ◌∷◌, ◌++◌, map, length, length-append, get_or, replicate, Option, Some, None, refl, sym, ap, ◌∙◌, subst, arith, lit≤, lit<}
 use mathlib.Core.Option.{some, some-injective, some-ne-none}
 use mathlib.Core.Logic.{dite}
 use native.Mathlib.Decide.{ℕ_discrete}
@@ -11,11 +11,13 @@ use Rattle.epoch_core.specs.World.{first_own}
 use Rattle.epoch_core.specs.SeatViews.{ReaderView, AreFirstSeats}
 use Rattle.atomic_table.specs.Seated.{TableId}
 use Rattle.std.specs.Prelude.{slice_index_or}
-use Rattle.epoch_core.specs.Rule.{RoleFits, KeyFits, PartFits, EpochRule, ValueFits, slot_of, opening_view}
-use Rattle.epoch_core.specs.Slots.{FirstSlot, FirstSlots}
+use Rattle.epoch_core.specs.Rule.{RoleFits, KeyFits, PartFits, EpochRule, ValueFits, slot_of, opening_view, announcement_word, index_word}
+use Rattle.std.proofs.lemmas.Bool.Decides.{nat_tests}
+use Rattle.epoch_core.specs.Slots.{is_first_slot, FirstSlot, FirstSlots}
 use Rattle.epoch_core.proofs.ReaderLemmas.{replaced_at_here, replaced_at_else}
 use Rattle.epoch_core.proofs.WorldLemmas.{opening_sound}
 use Rattle.epoch_core.proofs.ControlSteps.{lt_zero}
+use Rattle.epoch_core.proofs.ReaderSteps.{lt_is}
 
 pub first_slots_more : {C : Type 0} (P : C → Type 0) (n i : ℕ) (xs : List (Option C)) (x : Option C) → FirstSlots P n i xs → FirstSlot P n (i + length xs) x → FirstSlots P n i (xs ++ x ∷ [])
 first_slots_more P n i [] x a ok = let e : i + 0 ≡ i = omega arith in (subst (λ (k : ℕ). FirstSlot P n k x) e ok, tt)
@@ -30,8 +32,27 @@ first_slots_at P n i [] j a l = absurd (omega arith)
 first_slots_at P n i (x ∷ xs) zero a l = let e : i ≡ i + 0 = omega arith in (x, refl, subst (λ (k : ℕ). FirstSlot P n k x) e a.0)
 first_slots_at P n i (x ∷ xs) (suc j) a l = let r = first_slots_at P n (i + 1) xs j a.1 (omega arith) in let e : i + 1 + j ≡ i + suc j = omega arith in (r.0, r.1, subst (λ (k : ℕ). FirstSlot P n k r.0) e r.2)
 
+lt_not : (a b : ℕ) → b ≤ a → nat_lt a b ≡ false
+lt_not a b l = grind (arith, nat_tests)
+
+and_false : (t : Bool) → (t && false) ≡ false
+and_false true = refl
+and_false false = refl
+
+-- the slot of a reader in bank 0 has the first version, and in another bank it has none
+first_is : (n b r i : ℕ) → i ≡ slot_of b r → b ≡ 0 → r < n → is_first_slot n i ≡ true
+first_is n b r i at e l =
+    let even : i % 8 ≡ 0 = omega arith in
+    let low : i < 8 * n = omega arith in
+    rw (eq-eqb (i % 8) 0 even, lt_is i (8 * n) low) refl
+
+first_is_not : (n b r i : ℕ) → i ≡ slot_of b r → b ≢ 0 → n ≤ 64 → is_first_slot n i ≡ false
+first_is_not n b r i at e few =
+    let high : 8 * n ≤ i = omega arith in
+    rw (lt_not i (8 * n) high) (and_false (i % 8 == 0))
+
 module _ {Q C : Type 0} (K G : ℕ) (two : 2 ≤ K) (lawful : Q → ℕ → C → Type 0) (names : Q → ℕ → List (ℕ × ℕ)) (key : Q) where
-  pub table_starts : (n numbers : ℕ) (words : List ℕ) (slots : List (Option C)) → n ≤ 64 → length words ≡ 65 + (G + 1) → ((i : ℕ) → i < 65 + (G + 1) → get_or words i 0 ≡ 0) → length slots ≡ 64 * K → names key 0 ≡ [] → FirstSlots (lawful key 0) n 0 slots → EpochRule K G lawful names key (opening words slots (opening_view key n numbers))
+  pub table_starts : (n numbers : ℕ) (words : List ℕ) (slots : List (Option C)) → n ≤ 64 → length words ≡ 1040 + (G + 1) → ((i : ℕ) → i < 1040 + (G + 1) → get_or words i 0 ≡ 0) → length slots ≡ 512 * K → names key 0 ≡ [] → FirstSlots (lawful key 0) n 0 slots → EpochRule K G lawful names key (opening words slots (opening_view key n numbers))
   table_starts n numbers words slots few wide blank deep bare laid = record {
     world = w.opening n;
     owners = record { reader_seat = λ _. 0; note_seat = λ _. 0; control_seat = 0; opened = 0; ended = λ _. false };
@@ -43,16 +64,16 @@ module _ {Q C : Type 0} (K G : ℕ) (two : 2 ≤ K) (lawful : Q → ℕ → C �
     wide = wide;
     deep = length-map slots (λ (x : Option C). some x) ∙ deep;
     cur_is = blank 0 (omega arith);
-    ann_is = λ r l. blank (1 + r) (omega arith);
-    word_is = λ i l. blank (65 + i) (omega arith);
+    ann_is = λ r l. blank (announcement_word r) (omega arith);
+    word_is = λ i l. blank (index_word i) (omega arith);
     names_are = λ v l. no_names v (omega arith);
     each_view = go;
     each_place = λ r b l m. let got = first_slots_at (lawful key 0) n 0 slots (slot_of b r) laid (omega arith) in (
       got.0,
       got.1,
       dite (ℕ_discrete b 0)
-          (λ e. let low : 0 + slot_of b r < n = omega arith in subst (λ z. ValueFits lawful key z got.0) (sym (replaced_at_here (λ _. None) 0 b (Some 0) e)) (got.2.0 low))
-          (λ e. let high : n ≤ 0 + slot_of b r = omega arith in subst (λ z. ValueFits lawful key z got.0) (sym (replaced_at_else (λ _. None) 0 b (Some 0) e)) (got.2.1 high)),
+          (λ e. let low = first_is n b r (0 + slot_of b r) (omega arith) e l in subst (λ z. ValueFits lawful key z got.0) (sym (replaced_at_here (λ _. None) 0 b (Some 0) e)) (got.2.0 low))
+          (λ e. let high = first_is_not n b r (0 + slot_of b r) (omega arith) e few in subst (λ z. ValueFits lawful key z got.0) (sym (replaced_at_else (λ _. None) 0 b (Some 0) e)) (got.2.1 high)),
     );
   }
     where

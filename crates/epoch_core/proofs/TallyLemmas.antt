@@ -11,7 +11,7 @@ use Rattle.epoch_core.specs.declared.view.Role.TheVariants.{Control}
 use Rattle.epoch_core.specs.declared.view.View.{View}
 use Rattle.epoch_core.specs.Counts.{counts_of, tallied_of, from_greatest, rising_counts, IsCounted}
 use Rattle.epoch_core.specs.Plays.{tallies, tallied_control}
-use Rattle.epoch_core.specs.Rule.{booked_of, control_own, control_own_of}
+use Rattle.epoch_core.specs.Rule.{booked_of, control_own, control_own_of, index_word}
 use Rattle.epoch_core.specs.SeatViews.{IsBooked}
 
 -- the control's seat after a tally
@@ -25,7 +25,7 @@ pub record AfterTally {Q C : Type 0} (s t : Seat (Option C) (View Q)) (i found :
   pub small : found % 4294967296 ≤ 1073741824
   pub booked : (p : ℕ) → booked_of p (control_own s).booked ≤ 1073741824
 
-pub after_tally : {Q C : Type 0} (s t : Seat (Option C) (View Q)) (word i found : ℕ) → s.me.0.role ≡ Control (control_own s) → word ≡ 65 + i → tallies word s.me found t.me → AfterTally s t i found
+pub after_tally : {Q C : Type 0} (s t : Seat (Option C) (View Q)) (word i found : ℕ) → s.me.0.role ≡ Control (control_own s) → word ≡ index_word i → tallies word s.me found t.me → AfterTally s t i found
 after_tally s t word i found role e did =
     let went = did.1 i e (control_own s) role in
     let own : control_own t ≡ tallied_control i found (control_own s) = ap (λ (v : View _). control_own_of v.role) went.0 in

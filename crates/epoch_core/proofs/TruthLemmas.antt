@@ -1,6 +1,7 @@
 -- Where each reader and the control have a seat, a step that one seat has more found what its word held.
 use Rattle.std.proofs.Common.{◌≡◌, ◌≢◌, ◌⊎◌, ℕ, zero, suc, ◌+◌, ◌<◌, ◌≤◌, Bool, true, false, if◌then◌else◌, List, [], ◌∷◌, ◌++◌, length, set, get_or, Option, refl, sym, ap, ◌∙◌, subst, inl, inr, ⊎_elim, arith}
 use Rattle.std.specs.Prelude.{◌==◌, filter}
+use Rattle.std.proofs.lemmas.Bool.{cases_lt}
 use mathlib.Core.Logic.{dite}
 use mathlib.Core.Option.{some, some-injective, some-ne-none}
 use native.Mathlib.Decide.{ℕ_discrete}
@@ -12,20 +13,22 @@ use Rattle.epoch_core.specs.declared.event.Event.TheVariants.{Look, Announce, En
 use Rattle.epoch_core.specs.declared.view.ControlOwn.{ControlOwn}
 use Rattle.epoch_core.specs.declared.view.Made.{Made}
 use Rattle.epoch_core.specs.declared.view.Own.{Own}
-use Rattle.epoch_core.specs.declared.view.Role.TheVariants.{Reader, Control}
+use Rattle.epoch_core.specs.declared.view.Role.{Role}
+use Rattle.epoch_core.specs.declared.view.Role.TheVariants.{Spent, Reader, Control, Note}
 use Rattle.epoch_core.specs.declared.view.View.{View}
 use Rattle.epoch_core.specs.World as w
-use Rattle.epoch_core.specs.World.{World, opening}
+use Rattle.epoch_core.specs.World.{World, opening, word_value}
 use Rattle.epoch_core.specs.Step.{enabled, effect, step, may_pass, looked_reader, announced_reader, entered_reader, left_reader, passed_reader, scanned_reader, told_reader, hit_reader}
 use Rattle.std.specs.Prelude.{unwrap_or}
 use Rattle.epoch_core.specs.History.{number_of, place_of, made_of, made, counted, history, is_of_reader, is_of_control, readers_part, controls_part}
-use Rattle.epoch_core.specs.Rule.{EpochRule}
+use Rattle.epoch_core.specs.Rule.{EpochRule, announcement_word, index_word}
 use Rattle.epoch_core.specs.Running.{AllSeated}
-use Rattle.epoch_core.proofs.FoundLemmas.{In, Rising, in_front, in_last, in_part, of_part, made_rises, is_last, last, runs, found_is}
+use Rattle.epoch_core.proofs.FoundLemmas.{In, Rising, in_front, in_last, in_part, of_part, made_rises, is_last, last, runs, found_is, found_last}
+use Rattle.epoch_core.proofs.FoundWordLemmas.{of_end, one_more_of_part, is_on_word, on_word, value_of, value_still, value_moves, index_low, same_readers, scan_low, scanned_before}
 use Rattle.epoch_core.proofs.HistoryLemmas.{is_mine, is_not_mine}
 use Rattle.epoch_core.proofs.ReaderLemmas.{replaced_at_all}
 use Rattle.epoch_core.proofs.ReaderSteps.{fits_at}
-use Rattle.epoch_core.proofs.WorldLemmas.{both_true, below}
+use Rattle.epoch_core.proofs.WorldLemmas.{both_true, below, opening_sound}
 
 -- a reader's word is what its last announcement or leave stored
 abbrev ann_of : ℕ → Event → ℕ → ℕ
@@ -109,21 +112,12 @@ cur_moves K G w (Join q k) on = refl
 cur_moves K G w (Hit q i) on = refl
 cur_moves K G w (Reassign i p) on = refl
 
-same_readers : (K G : ℕ) (w : World) (e : Event) → (step K G w e).readers ≡ w.readers
-same_readers K G w e = go (enabled K G w e) e
-  where
-    go : (t : Bool) (e : Event) → (if t then effect K w e else w).readers ≡ w.readers
-    go false e = refl
-    go true (Look q) = refl
-    go true (Announce q) = refl
-    go true (Enter q) = refl
-    go true (Leave q) = refl
-    go true (Scan q) = refl
-    go true (Publish m) = refl
-    go true Split = refl
-    go true (Join q k) = refl
-    go true (Hit q i) = refl
-    go true (Reassign i p) = refl
+-- the steps that a seat of this role makes
+abbrev steps_of : Role → Event → Bool
+steps_of Spent e = false
+steps_of (Reader r o) e = is_of_reader r e
+steps_of (Control d) e = is_of_control e
+steps_of (Note k v) e = false
 
 -- each step is the control's or some reader's
 abbrev Someones : ℕ → Event → Type 0
@@ -201,6 +195,54 @@ module _ {Q C : Type 0} (K G : ℕ) (two : 2 ≤ K) (lawful : Q → ℕ → C �
     grown : filter (λ m. p0 m.event) ms' ≡ filter (λ m. p0 m.event) ms ++ X ∷ []
     grown = sym after ∙ (one ∙ ap (λ (l : List Made). l ++ X ∷ []) before)
 
+    seat_had : (x : Made) (p : Event → Bool) (j : ℕ) (u : View Q) → get_elem? s.views j ≡ some u → u.steps ≡ filter (λ m. p m.event) ms → (get_elem? s'.views j ≡ some u → u.steps ≡ filter (λ m. p m.event) ms')
+        → (j ≡ id → p0 x.event ≡ true) → p x.event ≡ true → In x ms' → In x ms ⊎ (x ≡ X)
+    seat_had x p j u at fits fits' mine is has =
+        dite (ℕ_discrete j id)
+        (λ e. ⊎_elim (λ h. inl (of_part p0 x ms (subst (λ l. In x l) before h)).0) (λ same. inr same) (of_end x v.steps X (subst (λ l. In x l) (sym after ∙ one) (in_part p0 x ms' (mine e) has))))
+        (λ n. inl (of_part p x ms (subst (λ l. In x l) (sym (fits' (still_there j u at n)) ∙ fits) (in_part p x ms' is has))).0)
+
+    -- a step that is there after X was there before it, where there are as many readers
+    had_in : ((e : Event) → steps_of v.role e ≡ p0 e) → h'.world.readers ≡ h.world.readers → (x : Made) → In x ms' → In x ms ⊎ (x ≡ X)
+    had_in mine same x has = ⊎_elim
+        (λ is. let c = seated.control in
+        seat_had x is_of_control c.0 c.1 c.3 (fits_at K G two lawful names key s h c.0 c.1 (Control c.2) c.4 c.3).2.0 (λ at. (fits_at K G two lawful names key s' h' c.0 c.1 (Control c.2) c.4 at).2.0)
+        (λ e. sym (mine x.event) ∙ (ap (λ z. steps_of z x.event) (sym (ap (λ (z : View Q). z.role) (same_view c.0 c.1 c.3 e)) ∙ c.4) ∙ is)) is has)
+        (λ r. let l : r.0 < h'.world.readers = r.1 in
+        let c = seated.reader r.0 (omega arith) in
+        seat_had x (is_of_reader r.0) c.0 c.1 c.3 (fits_at K G two lawful names key s h c.0 c.1 (Reader r.0 c.2) c.4 c.3).2 (λ at. (fits_at K G two lawful names key s' h' c.0 c.1 (Reader r.0 c.2) c.4 at).2)
+        (λ e. sym (mine x.event) ∙ (ap (λ z. steps_of z x.event) (sym (ap (λ (z : View Q). z.role) (same_view c.0 c.1 c.3 e)) ∙ c.4) ∙ r.2)) r.2 has)
+        (by_someone K G 0 (opening h'.world.readers) h'.events x has)
+
+    -- X, a step on an index word, found what the word held
+    found_word : (i : ℕ) → ((e : Event) → steps_of v.role e ≡ p0 e) → h'.world.readers ≡ h.world.readers → is_on_word i X.event ≡ true → ((z : World) → number_of z X.event ≡ word_value (z.word_at i)) → X.number ≡ get_or s.words (index_word i) 0
+    found_word i mine same is reads =
+        let up = made_rises K G 0 (opening h.world.readers) h.events in
+        let up' = made_rises K G 0 (opening h'.world.readers) h'.events in
+        let word = placed 0 ms' up' X in_ms'.0 (λ k. on_word i k X.event is) in
+        let high = index_low K G two i 0 (opening h'.world.readers) (opening_sound K G two h'.world.readers) h'.events X in_ms'.0 is in
+        let V : World → ℕ = λ z. word_value (z.word_at i) in
+        let more = one_more_of_part (is_on_word i) (on_word i) ms ms' up up' X is in_ms'.0 word kept_in (had_in mine same)
+        (λ y has on. is_last p0 ms ms' up up' X word in_ms'.1 grown kept_in y has (placed 0 ms up y has (λ k. on_word i k y.event on))) in
+        let found = found_last K G V (is_on_word i) value_of (value_moves K G i) value_still 0 (opening h'.world.readers) h'.events (filter (λ m. is_on_word i m.event) ms) X more reads in
+        let led = runs K G V (is_on_word i) value_of (value_moves K G i) value_still 0 (opening h.world.readers) h.events in
+        found ∙ (led ∙ (ap V h.ran ∙ sym (h.word_is i high)))
+
+    -- where X is a reassignment there are no more readers after it: it was made once each was scanned
+    no_more_readers : (i p : ℕ) → X.event ≡ Reassign i p → ((e : Event) → is_of_control e ≡ p0 e) → h'.world.readers ≤ h.world.readers
+    no_more_readers i p is mine =
+        ⊎_elim
+        (λ more.
+        let q : ℕ = h.world.readers in
+        let y = scanned_before K G q i p 0 (opening h'.world.readers) (omega arith) refl h'.events X in_ms'.0 is in
+        let knows : In y.0 (v.steps ++ X ∷ []) = subst (λ l. In y.0 l) (sym after ∙ one) (in_part p0 y.0 ms' (sym (mine y.0.event) ∙ ap is_of_control y.2) y.1) in
+        ⊎_elim
+        (λ k. let l = scan_low K G q 0 (opening q) h.events y.0 (of_part p0 y.0 ms (subst (λ l. In y.0 l) before k)).0 y.2 in absurd (omega arith))
+        (λ e. let bad : Scan q ≡ Reassign i p = sym y.2 ∙ (ap (λ (z : Made). z.event) e ∙ is) in cc)
+        (of_end y.0 v.steps X knows))
+        (λ most. most)
+        (cases_lt h.world.readers h'.world.readers)
+
     -- where the part p is the same in both, its steps on words are before X
     late_enough : (p : Event → Bool) → ((k : ℕ) → place_of k X.event ≡ k + 1) → filter (λ m. p m.event) ms' ≡ filter (λ m. p m.event) ms → (y : Made) → In y ms' → p y.event ≡ true → y.at ≢ 0 → y.at < X.at
     late_enough p on same y has is word =
@@ -209,7 +251,7 @@ module _ {Q C : Type 0} (K G : ℕ) (two : 2 ≤ K) (lawful : Q → ℕ → C �
         (placed 0 ms' (made_rises K G 0 (opening h'.world.readers) h'.events) X in_ms'.0 on) in_ms'.1 grown kept_in y was word
 
   -- a scan found what its word held
-  pub true_scan : (d d' : ControlOwn) (r t n : ℕ) → v.role ≡ Control d → v'.role ≡ Control d' → r < h.world.readers → v'.steps ≡ v.steps ++ record { at = t; event = Scan r; number = n } ∷ [] → n ≡ get_or s.words (1 + r) 0
+  pub true_scan : (d d' : ControlOwn) (r t n : ℕ) → v.role ≡ Control d → v'.role ≡ Control d' → r < h.world.readers → v'.steps ≡ v.steps ++ record { at = t; event = Scan r; number = n } ∷ [] → n ≡ get_or s.words (announcement_word r) 0
   true_scan d d' r t n is is' l one =
       let X : Made = record { at = t; event = Scan r; number = n } in
       let before = (fits_at K G two lawful names key s h id v (Control d) is there).2.0 in
@@ -250,3 +292,33 @@ module _ {Q C : Type 0} (K G : ℕ) (two : 2 ≤ K) (lawful : Q → ℕ → C �
 
   pub true_enter : (q : ℕ) (o o' : Own) (t n : ℕ) → v.role ≡ Reader q o → v'.role ≡ Reader q o' → v'.steps ≡ v.steps ++ record { at = t; event = Enter q; number = n } ∷ [] → n ≡ get_or s.words 0 0
   true_enter q = true_load (Enter q) (λ k. refl) (λ z. refl) refl q
+
+  -- a hit found what its word held
+  pub true_hit : (r i : ℕ) (o o' : Own) (t n : ℕ) → v.role ≡ Reader r o → v'.role ≡ Reader r o' → v'.steps ≡ v.steps ++ record { at = t; event = Hit r i; number = n } ∷ [] → n ≡ get_or s.words (index_word i) 0
+  true_hit r i o o' t n is is' one =
+      let X : Made = record { at = t; event = Hit r i; number = n } in
+      let before = (fits_at K G two lawful names key s h id v (Reader r o) is there).2 in
+      let after = (fits_at K G two lawful names key s' h' id v' (Reader r o') is' here).2 in
+      let c = seated.control in
+      let apart : c.0 ≢ id = λ e. let same = same_view c.0 c.1 c.3 e in let bad : Control c.2 ≡ Reader r o = sym c.4 ∙ (ap (λ (z : View Q). z.role) same ∙ is) in cc in
+      let count = (fits_at K G two lawful names key s h c.0 c.1 (Control c.2) c.4 c.3).1.readers_are in
+      let count' = (fits_at K G two lawful names key s' h' c.0 c.1 (Control c.2) c.4 (still_there c.0 c.1 c.3 apart)).1.readers_are in
+      found_word (is_of_reader r) X before after one i (λ e. ap (λ z. steps_of z e) is) (sym count' ∙ count) (is_mine i) (λ z. refl)
+
+  -- a reassignment found what its word held
+  pub true_reassign : (d d' : ControlOwn) (i p t n : ℕ) → v.role ≡ Control d → v'.role ≡ Control d' → v'.steps ≡ v.steps ++ record { at = t; event = Reassign i p; number = n } ∷ [] → n ≡ get_or s.words (index_word i) 0
+  true_reassign d d' i p t n is is' one =
+      let X : Made = record { at = t; event = Reassign i p; number = n } in
+      let before = (fits_at K G two lawful names key s h id v (Control d) is there).2.0 in
+      let after = (fits_at K G two lawful names key s' h' id v' (Control d') is' here).2.0 in
+      let most = no_more_readers is_of_control X before after one i p refl (λ e. refl) in
+      let least : h.world.readers ≤ h'.world.readers =
+      ⊎_elim
+      (λ fewer.
+      let q : ℕ = h'.world.readers in
+      let c = seated.reader q (omega arith) in
+      let apart : c.0 ≢ id = λ e. let same = same_view c.0 c.1 c.3 e in let bad : Reader q c.2 ≡ Control d = sym c.4 ∙ (ap (λ (z : View Q). z.role) same ∙ is) in cc in
+      let l = (fits_at K G two lawful names key s' h' c.0 c.1 (Reader q c.2) c.4 (still_there c.0 c.1 c.3 apart)).1.0 in absurd (omega arith))
+      (λ least. least)
+      (cases_lt h'.world.readers h.world.readers) in
+      found_word is_of_control X before after one i (λ e. ap (λ z. steps_of z e) is) (omega arith) (is_mine i) (λ z. refl)

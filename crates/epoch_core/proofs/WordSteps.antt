@@ -19,7 +19,7 @@ use Rattle.epoch_core.specs.World as w
 use Rattle.epoch_core.specs.World.{World, Word, word_value}
 use Rattle.epoch_core.specs.Step.{most_hits, has_pair, has_index, hit_own, hit_word, hit_reader, given_word, is_recent, is_unnamed, is_index, all_passed, version_in_hand, replaced_at, enabled, effect, step}
 use Rattle.epoch_core.specs.Sound.{HasInHand, Carries, IsRecent}
-use Rattle.epoch_core.specs.Rule.{TallyFits, RoleFits, booked_of, EpochRule}
+use Rattle.epoch_core.specs.Rule.{TallyFits, RoleFits, booked_of, EpochRule, announcement_word, index_word}
 use Rattle.epoch_core.specs.declared.view.Made.{Made}
 use Rattle.epoch_core.specs.History.{OneMore, made_of, history}
 use Rattle.epoch_core.proofs.HistoryLemmas.{now_at, Says, is_mine, is_not_mine}
@@ -69,11 +69,11 @@ module _ {Q C : Type 0} (K G : ℕ) (two : 2 ≤ K) (lawful : Q → ℕ → C �
   Rule = EpochRule K G lawful names key
 
   pub hitting : (slots id : ℕ) (me : Mine Q C) (r i : ℕ) (o : Own) (a v : ℕ) → me.0.role ≡ Reader r o → o.phase ≡ Holding a v → has_index i (names me.0.key v) ≡ true → length o.hits < most_hits
-      → Follows K G lawful names key slots id me (65 + i) (λ n. (n + 1) % 2 ^ 64) (hits names (65 + i) me) (event.Hit r i)
+      → Follows K G lawful names key slots id me (index_word i) (λ n. (n + 1) % 2 ^ 64) (hits names (index_word i) me) (event.Hit r i)
   hitting slots id me r i o a u is out named few_hits s h _ at small =
       let x = h.world in
       let y = x.reader_at r in
-      let n : ℕ = get_or s.words (65 + i) 0 in
+      let n : ℕ = get_or s.words (index_word i) 0 in
       let seen = fits_at K G two lawful names key s h id me.0 (Reader r o) is at in
       let k = seen.1 in
       let inside = k.0 in
@@ -103,17 +103,17 @@ module _ {Q C : Type 0} (K G : ℕ) (two : 2 ≤ K) (lawful : Q → ℕ → C �
       let own_is : hit_own c.number y.own ≡ hit_own (n / 4294967296) o = λ j. hit_own (sym parts.0 j) (same j) in
       let few = h.few in
       let wide = h.wide in
-      let done = reader_step K G two lawful names key s h (event.Hit r i) r o (hit_own (n / 4294967296) o) me.0.steps (hit_reader c.number) word_at' (set s.words (65 + i) m) s.homes id k
+      let done = reader_step K G two lawful names key s h (event.Hit r i) r o (hit_own (n / 4294967296) o) me.0.steps (hit_reader c.number) word_at' (set s.words (index_word i) m) s.homes id k
       seen.2 on refl (is_mine r) (λ q n. is_not_mine r q n) refl
       (effect_sound K G two x (event.Hit r i) h.sound on)
       (replaced_at_all (λ j z. z.number ≡ (x.word_at j).number) x.word_at i (hit_word c) refl (λ j _. refl))
       own_is refl
-      (length-set s.words (65 + i) m) (get_or-set_other s.words (65 + i) 0 m 0 (λ e. omega arith))
-      (get_or-set_other s.words (65 + i) (1 + r) m 0 (λ e. omega arith) ∙ h.ann_is r inside)
-      (λ q l d. get_or-set_other s.words (65 + i) (1 + q) m 0 (λ e. omega arith))
-      (replaced_at_all (λ j z. j ≤ G → get_or (set s.words (65 + i) m) (65 + j) 0 ≡ word_value z) x.word_at i (hit_word c)
-      (λ _. get_or-set_same s.words (65 + i) m 0 (omega arith) ∙ omega arith)
-      (λ j d l. get_or-set_other s.words (65 + i) (65 + j) m 0 (λ e. d (omega arith)) ∙ h.word_is j l))
+      (length-set s.words (index_word i) m) (get_or-set_other s.words (index_word i) 0 m 0 (λ e. omega arith))
+      (get_or-set_other s.words (index_word i) (announcement_word r) m 0 (λ e. omega arith) ∙ h.ann_is r inside)
+      (λ q l d. get_or-set_other s.words (index_word i) (announcement_word q) m 0 (λ e. omega arith))
+      (replaced_at_all (λ j z. j ≤ G → get_or (set s.words (index_word i) m) (index_word j) 0 ≡ word_value z) x.word_at i (hit_word c)
+      (λ _. get_or-set_same s.words (index_word i) m 0 (omega arith) ∙ omega arith)
+      (λ j d l. get_or-set_other s.words (index_word i) (index_word j) m 0 (λ e. d (omega arith)) ∙ h.word_is j l))
       refl (λ b l. h.each_place r b inside l) (λ q b _ _. refl) v (ap (λ q. view q (Reader r (hit_own (n / 4294967296) o)) l) seen.0) in (
         v,
         keeps,
@@ -136,16 +136,16 @@ module _ {Q C : Type 0} (K G : ℕ) (two : 2 ≤ K) (lawful : Q → ℕ → C �
       )
 
   pub hitting_at : (slots id word : ℕ) (me : Mine Q C) (r i : ℕ) (o : Own) (a v : ℕ) → me.0.role ≡ Reader r o → o.phase ≡ Holding a v → has_index i (names me.0.key v) ≡ true → length o.hits < most_hits
-      → word ≡ 65 + i → Allows Rule slots id me word (λ n. (n + 1) % 2 ^ 64) (hits names word me)
+      → word ≡ index_word i → Allows Rule slots id me word (λ n. (n + 1) % 2 ^ 64) (hits names word me)
   hitting_at slots id word me r i o a v is out named few e =
-      subst (λ (u : ℕ). Allows Rule slots id me u (λ n. (n + 1) % 2 ^ 64) (hits names u me)) (sym e) (allows K G two lawful names key slots id me (65 + i) (λ n. (n + 1) % 2 ^ 64) (hits names (65 + i) me) (event.Hit r i) (hitting slots id me r i o a v is out named few))
+      subst (λ (u : ℕ). Allows Rule slots id me u (λ n. (n + 1) % 2 ^ 64) (hits names u me)) (sym e) (allows K G two lawful names key slots id me (index_word i) (λ n. (n + 1) % 2 ^ 64) (hits names (index_word i) me) (event.Hit r i) (hitting slots id me r i o a v is out named few))
 
   pub reassigning : (slots id i p : ℕ) (me : Mine Q C) (d : ControlOwn) → me.0.role ≡ Control d → d.passed ≡ d.readers → 0 < i → i ≤ G → p ≤ d.numbers
       → ((u : ℕ) → IsRecent K d.version u → has_index i (names me.0.key u) ≡ false) → has_index i d.done ≡ false → d.tallied ≡ []
-      → Follows K G lawful names key slots id me (65 + i) (λ _. p * 4294967296) (reassigns (65 + i) (p * 4294967296) me) (event.Reassign i p)
+      → Follows K G lawful names key slots id me (index_word i) (λ _. p * 4294967296) (reassigns (index_word i) (p * 4294967296) me) (event.Reassign i p)
   reassigning slots id i p me d is all low high bound free apart untallied s h _ at small =
       let x = h.world in
-      let n : ℕ = get_or s.words (65 + i) 0 in
+      let n : ℕ = get_or s.words (index_word i) 0 in
       let m : ℕ = p * 4294967296 in
       let seen = fits_at K G two lawful names key s h id me.0 (Control d) is at in
       let k = seen.1 in
@@ -170,13 +170,13 @@ module _ {Q C : Type 0} (K G : ℕ) (two : 2 ≤ K) (lawful : Q → ℕ → C �
       let t : ℕ = now_at K G x.readers h.events in
       let l : List Made = me.0.steps ++ made_of t x (event.Reassign i p) ∷ [] in
       let v : View Q = view me.0.key (Control d') l in
-      let done = control_step K G two lawful names key s h (event.Reassign i p) x' d d' me.0.steps (set s.words (65 + i) m) s.homes id k.its_seat seen.2 refl refl on refl refl (λ q. refl) refl (λ r. refl) refl refl
+      let done = control_step K G two lawful names key s h (event.Reassign i p) x' d d' me.0.steps (set s.words (index_word i) m) s.homes id k.its_seat seen.2 refl refl on refl refl (λ q. refl) refl (λ r. refl) refl refl
       (effect_sound K G two x (event.Reassign i p) h.sound on) h.low
-      (length-set s.words (65 + i) m ∙ wide) h.deep (get_or-set_other s.words (65 + i) 0 m 0 (λ e. omega arith) ∙ h.cur_is)
-      (λ r l. get_or-set_other s.words (65 + i) (1 + r) m 0 (λ e. omega arith) ∙ h.ann_is r l)
-      (replaced_at_all (λ j z. j ≤ G → get_or (set s.words (65 + i) m) (65 + j) 0 ≡ word_value z) x.word_at i (given_word p)
-      (λ _. get_or-set_same s.words (65 + i) m 0 (omega arith) ∙ omega arith)
-      (λ j a l. get_or-set_other s.words (65 + i) (65 + j) m 0 (λ e. a (omega arith)) ∙ h.word_is j l))
+      (length-set s.words (index_word i) m ∙ wide) h.deep (get_or-set_other s.words (index_word i) 0 m 0 (λ e. omega arith) ∙ h.cur_is)
+      (λ r l. get_or-set_other s.words (index_word i) (announcement_word r) m 0 (λ e. omega arith) ∙ h.ann_is r l)
+      (replaced_at_all (λ j z. j ≤ G → get_or (set s.words (index_word i) m) (index_word j) 0 ≡ word_value z) x.word_at i (given_word p)
+      (λ _. get_or-set_same s.words (index_word i) m 0 (omega arith) ∙ omega arith)
+      (λ j a l. get_or-set_other s.words (index_word i) (index_word j) m 0 (λ e. a (omega arith)) ∙ h.word_is j l))
       h.names_are h.each_place record { its_seat = k.its_seat; readers_are = k.readers_are; version_is = k.version_is; passed_are = k.passed_are; scans_are = k.scans_are; found_is = k.found_is; made_are = k.made_are; opened_are = k.opened_are; unopened = k.unopened; ended_fit = ended_fit_still x x' h.owners (λ r. refl) d.ended k.ended_fit; once = k.once; done_is = ap (λ (z : List (ℕ × ℕ)). (i, p) ∷ z) k.done_is; booked_are = (λ q. booked_more x.booked d.booked k.booked_are c.number c.count (n / 4294967296) (n % 4294967296) q parts.0 parts.1); numbers_low = replaced_at_all (λ j z. z.number ≤ d.numbers) x.word_at i (given_word p) bound (λ j _. k.numbers_low j); tally_fits = subst (λ (cs : List (ℕ × ℕ)). TallyFits x'.word_at d.readers (length d.ended) cs) (sym untallied) tt } v (ap (λ q. view q (Control d') l) seen.0) in (
         v,
         keeps,
@@ -198,21 +198,21 @@ module _ {Q C : Type 0} (K G : ℕ) (two : 2 ≤ K) (lawful : Q → ℕ → C �
       )
 
   pub reassigning_at : (slots id word new i p : ℕ) (me : Mine Q C) (d : ControlOwn) → me.0.role ≡ Control d → d.passed ≡ d.readers → 0 < i → i ≤ G → p ≤ d.numbers
-      → ((u : ℕ) → IsRecent K d.version u → has_index i (names me.0.key u) ≡ false) → has_index i d.done ≡ false → d.tallied ≡ [] → word ≡ 65 + i → new ≡ p * 4294967296
+      → ((u : ℕ) → IsRecent K d.version u → has_index i (names me.0.key u) ≡ false) → has_index i d.done ≡ false → d.tallied ≡ [] → word ≡ index_word i → new ≡ p * 4294967296
       → Allows Rule slots id me word (λ _. new) (reassigns word new me)
   reassigning_at slots id word new i p me d is all low high bound free apart untallied e f =
-      subst (λ (u : ℕ × ℕ). Allows Rule slots id me u.0 (λ _. u.1) (reassigns u.0 u.1 me)) (λ j. (sym e j, sym f j)) (allows K G two lawful names key slots id me (65 + i) (λ _. p * 4294967296) (reassigns (65 + i) (p * 4294967296) me) (event.Reassign i p) (reassigning slots id i p me d is all low high bound free apart untallied))
+      subst (λ (u : ℕ × ℕ). Allows Rule slots id me u.0 (λ _. u.1) (reassigns u.0 u.1 me)) (λ j. (sym e j, sym f j)) (allows K G two lawful names key slots id me (index_word i) (λ _. p * 4294967296) (reassigns (index_word i) (p * 4294967296) me) (event.Reassign i p) (reassigning slots id i p me d is all low high bound free apart untallied))
 
   -- the control tallies a word, once it has taken in as many seats as there are readers: the world stays
   pub tallying : (slots id i : ℕ) (me : Mine Q C) (d : ControlOwn) → me.0.role ≡ Control d → d.readers ≤ length d.ended → i ≤ G
-      → StepFollows K G lawful names key slots id me (65 + i) (λ n. n) (tallies (65 + i) me) (λ x. x) (λ es. es)
+      → StepFollows K G lawful names key slots id me (index_word i) (λ n. n) (tallies (index_word i) me) (λ x. x) (λ es. es)
   tallying slots id i me d is many high s h _ at small =
       let x = h.world in
-      let n : ℕ = get_or s.words (65 + i) 0 in
+      let n : ℕ = get_or s.words (index_word i) 0 in
       let seen = fits_at K G two lawful names key s h id me.0 (Control d) is at in
       let k = seen.1 in
       let ms : List Made = history K G x.readers h.events in
-      let words = set-get_or s.words (65 + i) 0 in
+      let words = set-get_or s.words (index_word i) 0 in
       let c : Word = x.word_at i in
       let word : n ≡ c.number * 4294967296 + c.count = h.word_is i high in
       let count : c.count ≤ 1073741824 = count_is_small K G x h.sound h.few i high in
@@ -220,7 +220,7 @@ module _ {Q C : Type 0} (K G : ℕ) (two : 2 ≤ K) (lawful : Q → ℕ → C �
       let low_number = k.numbers_low i in
       let v : View Q = view me.0.key (Control (tallied_control i n d)) me.0.steps in
       let says : Says key x h.owners ms id v = (seen.0, record { its_seat = k.its_seat; readers_are = k.readers_are; version_is = k.version_is; passed_are = k.passed_are; scans_are = k.scans_are; found_is = k.found_is; made_are = k.made_are; opened_are = k.opened_are; unopened = k.unopened; ended_fit = k.ended_fit; once = k.once; done_is = k.done_is; booked_are = k.booked_are; numbers_low = k.numbers_low; tally_fits = (many, sym word, k.tally_fits) }, seen.2) in
-      let done : (h' : Rule record { words = set s.words (65 + i) n; homes = s.homes; views = set s.views id v }) × (h'.world ≡ x) × (h'.events ≡ h.events) =
+      let done : (h' : Rule record { words = set s.words (index_word i) n; homes = s.homes; views = set s.views id v }) × (h'.world ≡ x) × (h'.events ≡ h.events) =
       subst (λ (ws : List ℕ). (h' : Rule record { words = ws; homes = s.homes; views = set s.views id v }) × (h'.world ≡ x) × (h'.events ≡ h.events)) (sym words) (
         record {
           world = x;
@@ -256,14 +256,14 @@ module _ {Q C : Type 0} (K G : ℕ) (two : 2 ≤ K) (lawful : Q → ℕ → C �
         ),
       )
 
-  pub tallying_at : (slots id word i : ℕ) (me : Mine Q C) (d : ControlOwn) → me.0.role ≡ Control d → d.readers ≤ length d.ended → i ≤ G → word ≡ 65 + i
+  pub tallying_at : (slots id word i : ℕ) (me : Mine Q C) (d : ControlOwn) → me.0.role ≡ Control d → d.readers ≤ length d.ended → i ≤ G → word ≡ index_word i
       → Allows Rule slots id me word (λ n. n) (tallies word me)
   tallying_at slots id word i me d is many high e =
       subst (λ (u : ℕ). Allows Rule slots id me u (λ n. n) (tallies u me)) (sym e) (λ s h deep at small. let r = tallying slots id i me d is many high s h deep at small in (r.0, r.1, r.2, r.3.0, r.4))
 
   -- what is tallied of a word is what the word holds
   pub tallied_true : (s : St) (h : Rule s) (id : ℕ) (v : View Q) (d : ControlOwn) → get_elem? s.views id ≡ some v → v.role ≡ Control d
-      → (i n : ℕ) → i ≤ G → has_pair i n d.tallied ≡ true → n ≡ get_or s.words (65 + i) 0
+      → (i n : ℕ) → i ≤ G → has_pair i n d.tallied ≡ true → n ≡ get_or s.words (index_word i) 0
   tallied_true s h id v d at is i n high has =
       let k = (fits_at K G two lawful names key s h id v (Control d) is at).1 in
       go d.readers (length d.ended) d.tallied k.tally_fits has ∙ sym (h.word_is i high)

@@ -14,7 +14,7 @@ use Rattle.epoch_core.specs.Step.{run, may_pass, looked_own, announced_own, ente
 use Rattle.epoch_core.specs.World.{first_own, opening}
 use Rattle.epoch_core.specs.History.{OneMore, history, controls_part}
 use Rattle.epoch_core.specs.Counts.{hits_of, tallied_of, from_greatest}
-use Rattle.epoch_core.specs.Rule.{Ended, EndedParts, slot_of, AreOnce, ValueFits, booked_of}
+use Rattle.epoch_core.specs.Rule.{Ended, EndedParts, slot_of, AreOnce, ValueFits, booked_of, index_word}
 use Rattle.epoch_core.specs.Sound.{IsLatest}
 
 -- what a seat knows, and the slots that it has in hand
@@ -58,7 +58,7 @@ module _ {Q C : Type 0} where
   abbrev pub hits : (Q → ℕ → List (ℕ × ℕ)) → ℕ → Mine Q C → ℕ → Mine Q C → Type 0
   hits names word m found m' =
       (m'.1 ≡ m.1)
-      × ((i : ℕ) → word ≡ 65 + i → ReaderGoes m m' (λ r. event.Hit r i) (λ _. found) (λ r o p. (p ≡ hit_own (found / 4294967296) o)
+      × ((i : ℕ) → word ≡ index_word i → ReaderGoes m m' (λ r. event.Hit r i) (λ _. found) (λ r o p. (p ≡ hit_own (found / 4294967296) o)
       × ((q : ℕ) → has_pair i q (names m.0.key (version_in_hand o.phase)) ≡ true → found / 4294967296 ≡ q)))
 
 -- what the control knows after it has given the word of the index i to the number p, where it found this word
@@ -118,7 +118,7 @@ module _ {Q C : Type 0} where
   abbrev pub reassigns : ℕ → ℕ → Mine Q C → ℕ → Mine Q C → Type 0
   reassigns word new m found m' =
       (m'.1 ≡ m.1)
-      × ((i p : ℕ) → word ≡ 65 + i → new ≡ p * 4294967296 → ControlGoes m m' (reassigned_control i p found) (λ d. (found / 4294967296 ≤ d.numbers) × (booked_of (found / 4294967296) d.booked + found % 4294967296 ≤ 1073741824) × OneMore m.0.steps (event.Reassign i p) found m'.0.steps))
+      × ((i p : ℕ) → word ≡ index_word i → new ≡ p * 4294967296 → ControlGoes m m' (reassigned_control i p found) (λ d. (found / 4294967296 ≤ d.numbers) × (booked_of (found / 4294967296) d.booked + found % 4294967296 ≤ 1073741824) × OneMore m.0.steps (event.Reassign i p) found m'.0.steps))
 
 -- what the control knows after it has tallied the word of the index i
 abbrev pub tallied_control : ℕ → ℕ → ControlOwn → ControlOwn
@@ -129,7 +129,7 @@ tallied_control i found d = record d { tallied = (i, found) ∷ d.tallied }
 abbrev pub tallies : {Q C : Type 0} → ℕ → Mine Q C → ℕ → Mine Q C → Type 0
 tallies word m found m' =
     (m'.1 ≡ m.1)
-    × ((i : ℕ) → word ≡ 65 + i → ControlGoes m m' (tallied_control i found) (λ d. (found / 4294967296 ≤ d.numbers) × (found % 4294967296 ≤ 1073741824)
+    × ((i : ℕ) → word ≡ index_word i → ControlGoes m m' (tallied_control i found) (λ d. (found / 4294967296 ≤ d.numbers) × (found % 4294967296 ≤ 1073741824)
     × ((p : ℕ) → booked_of p d.booked ≤ 1073741824) × (m'.0.steps ≡ m.0.steps)))
 
 -- what the control keeps when it makes a reader's seat, and what that begins with

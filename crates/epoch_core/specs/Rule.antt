@@ -1,6 +1,6 @@
 -- The rule of the running table: the world that its words, its seats' views and the slots that are out show is sound, and
 -- each place at home has a lawful value. C is a handle of a value, Q a key, and K the number of banks. The place of
--- reader r in bank b is the slot 64 b + r.
+-- reader r in bank b is the slot 8 (64 b + r).
 use Rattle.std.specs.Prelude.{◌≡◌, ℕ, ◌+◌, ◌*◌, ◌<◌, ◌≤◌, Bool, true, false, ◌||◌, ◌==◌, nat_lt, if◌then◌else◌, List, [], ◌∷◌, length, slice_index, Option, Some, None}
 use mathlib.Core.Option.{some}
 use mathlib.Core.Option as maybe
@@ -22,9 +22,17 @@ use Rattle.epoch_core.specs.Sound.{Sound}
 use Rattle.epoch_core.specs.Step.{run}
 use Rattle.epoch_core.specs.World.{Word, World, Spot, home, reader, control, first_own, opening, word_value}
 
--- the slot of reader r in bank b
+-- the slot of reader r in bank b. What two readers write stands 8 slots or 16 words apart, so that no cache line is written by
+-- two readers
 abbrev pub slot_of : ℕ → ℕ → ℕ
-slot_of b r = 64 * b + r
+slot_of b r = 8 * (64 * b + r)
+
+-- the word that reader r announces in, and the word of an index
+abbrev pub announcement_word : ℕ → ℕ
+announcement_word r = 16 * (1 + r)
+
+abbrev pub index_word : ℕ → ℕ
+index_word i = 1040 + i
 
 -- the hits that a list of numbers and counts has of p
 abbrev pub booked_of : ℕ → List (ℕ × ℕ) → ℕ
@@ -144,20 +152,20 @@ pub record EpochRule {Q C : Type 0} (K G : ℕ) (lawful : Q → ℕ → C → Ty
   pub sound : Sound K G world
   pub few : world.readers ≤ 64
   pub low : world.cur < 4294967296
-  pub wide : length s.words ≡ 65 + (G + 1)
-  pub deep : length s.homes ≡ 64 * K
+  pub wide : length s.words ≡ 1040 + (G + 1)
+  pub deep : length s.homes ≡ 512 * K
   pub cur_is : slice_index s.words 0 ≡ world.cur
-  pub ann_is : (r : ℕ) → r < world.readers → slice_index s.words (1 + r) ≡ (world.reader_at r).ann
-  pub word_is : (i : ℕ) → i ≤ G → slice_index s.words (65 + i) ≡ word_value (world.word_at i)
+  pub ann_is : (r : ℕ) → r < world.readers → slice_index s.words (announcement_word r) ≡ (world.reader_at r).ann
+  pub word_is : (i : ℕ) → i ≤ G → slice_index s.words (index_word i) ≡ word_value (world.word_at i)
   pub names_are : (v : ℕ) → v ≤ world.cur → world.pairs_at v ≡ names key v
   pub each_view : (j : ℕ) (v : View Q) → get_elem? s.views j ≡ some v → KeyFits v.role (v.key ≡ key) × RoleFits world owners j v.role × PartFits (history K G world.readers events) v.role v.steps
   pub each_place : (r b : ℕ) → r < world.readers → b < K → PlaceHas lawful key ((world.reader_at r).spot b) ((world.reader_at r).held b) (get_elem? s.homes (slot_of b r))
 
--- K banks and so many live targets are within the limits, and the table has 65 words and one for each index, and a place for
--- each of 64 readers in each bank
+-- K banks and so many live targets are within the limits, and the table has 1,040 words and one for each index, and a place for
+-- each of 64 readers in each bank, 8 slots apart
 abbrev pub IsSized : ℕ → ℕ → TableId → Type 0
 IsSized K live z =
-    (AreBanks K × AreTargets live) × (z.words ≡ 65 + (last_index K live + 1)) × (z.slots ≡ 64 * K)
+    (AreBanks K × AreTargets live) × (z.words ≡ 1040 + (last_index K live + 1)) × (z.slots ≡ 512 * K)
 
 -- the numbers of a reader's seat, and those of a new reader for any other seat
 abbrev pub own_of : Role → Own

@@ -14,7 +14,7 @@ use Rattle.epoch_core.specs.Follows.{Follows, StepFollows, SplitFollows, JoinFol
 use Rattle.epoch_core.specs.Plays.{Mine, looks, announces, enters, leaves, scans, publishes, hits, reassigns, tallies, Each, filled_places, seating, seated, telling_view, noted, learnt_view, ending_view, closes, in_role, as_new}
 use Rattle.epoch_core.specs.Counts.{hits_of, counts_of}
 use Rattle.epoch_core.specs.Sums.{total}
-use Rattle.epoch_core.specs.Rule.{booked_of, slot_of, PlaceHas, EpochRule}
+use Rattle.epoch_core.specs.Rule.{booked_of, slot_of, PlaceHas, EpochRule, announcement_word, index_word}
 use Rattle.epoch_core.specs.Sound.{IsRecent, Sound}
 use Rattle.epoch_core.specs.History.{OneMore, history, readers_part, controls_part}
 use Rattle.epoch_core.specs.Step.{are_distinct, each_among, has_index, has_pair, most_hits, step, run}
@@ -59,18 +59,23 @@ pub record EachStepFollows {Q C : Type 0} (K G : ℕ) (lawful : Q → ℕ → C 
   -- no step is made up: where the control has made one step more, a scan, it found what the reader's word held, whatever the
   -- seat knows and whatever the step was on the table
   pub true_scan : (s s' : State (Option C) (View Q)) (id : ℕ) (v v' : View Q) (d d' : ControlOwn) (r n : ℕ) (go : OneSeatGoes K G lawful names key s s' id v v')
-      → v.role ≡ Control d → v'.role ≡ Control d' → r < go.before.world.readers → OneMore v.steps (event.Scan r) n v'.steps → n ≡ slice_index s.words (1 + r)
+      → v.role ≡ Control d → v'.role ≡ Control d' → r < go.before.world.readers → OneMore v.steps (event.Scan r) n v'.steps → n ≡ slice_index s.words (announcement_word r)
   -- so it is with a reader's look, and with its enter: it found what word 0 held
   pub true_look : (s s' : State (Option C) (View Q)) (id : ℕ) (v v' : View Q) (o o' : Own) (r n : ℕ) → OneSeatGoes K G lawful names key s s' id v v'
       → v.role ≡ Reader r o → v'.role ≡ Reader r o' → OneMore v.steps (event.Look r) n v'.steps → n ≡ slice_index s.words 0
   pub true_enter : (s s' : State (Option C) (View Q)) (id : ℕ) (v v' : View Q) (o o' : Own) (r n : ℕ) → OneSeatGoes K G lawful names key s s' id v v'
       → v.role ≡ Reader r o → v'.role ≡ Reader r o' → OneMore v.steps (event.Enter r) n v'.steps → n ≡ slice_index s.words 0
+  -- and with a reader's hit, and the control's reassignment: it found what the word of the index held
+  pub true_hit : (s s' : State (Option C) (View Q)) (id : ℕ) (v v' : View Q) (o o' : Own) (r i n : ℕ) → OneSeatGoes K G lawful names key s s' id v v'
+      → v.role ≡ Reader r o → v'.role ≡ Reader r o' → OneMore v.steps (event.Hit r i) n v'.steps → n ≡ slice_index s.words (index_word i)
+  pub true_reassign : (s s' : State (Option C) (View Q)) (id : ℕ) (v v' : View Q) (d d' : ControlOwn) (i p n : ℕ) → OneSeatGoes K G lawful names key s s' id v v'
+      → v.role ≡ Control d → v'.role ≡ Control d' → OneMore v.steps (event.Reassign i p) n v'.steps → n ≡ slice_index s.words (index_word i)
   -- so a step that tells the control of a scan that found `g k`, where the word holds k, may be made only where `g k` is k
   pub no_feigned_scan : (slots id : ℕ) (g : ℕ → ℕ) (me : Mine Q C) (d : ControlOwn) → me.0.role ≡ Control d → d.passed < d.readers
-      → Allows (EpochRule K G lawful names key) slots id me (1 + d.passed) (λ k. k) (λ k m'. scans lawful K me (g k) m')
+      → Allows (EpochRule K G lawful names key) slots id me (announcement_word d.passed) (λ k. k) (λ k m'. scans lawful K me (g k) m')
       → (s : State (Option C) (View Q)) (h : EpochRule K G lawful names key s) → AllSeated h.world.readers s.views → length s.homes ≡ slots
-      → get_elem? s.views id ≡ some me.0 → slice_index s.words (1 + d.passed) < 18446744073709551616
-      → g (slice_index s.words (1 + d.passed)) ≡ slice_index s.words (1 + d.passed)
+      → get_elem? s.views id ≡ some me.0 → slice_index s.words (announcement_word d.passed) < 18446744073709551616
+      → g (slice_index s.words (announcement_word d.passed)) ≡ slice_index s.words (announcement_word d.passed)
   -- so it is with a step that tells a reader of a look, or of an enter, that found `g k`
   pub no_feigned_look : (slots id r : ℕ) (g : ℕ → ℕ) (me : Mine Q C) (o : Own) → me.0.role ≡ Reader r o
       → Allows (EpochRule K G lawful names key) slots id me 0 (λ k. k) (λ k m'. looks me (g k) m')
@@ -80,22 +85,33 @@ pub record EachStepFollows {Q C : Type 0} (K G : ℕ) (lawful : Q → ℕ → C 
       → Allows (EpochRule K G lawful names key) slots id me 0 (λ k. k) (λ k m'. enters lawful names K G me (g k) m')
       → (s : State (Option C) (View Q)) (h : EpochRule K G lawful names key s) → AllSeated h.world.readers s.views → length s.homes ≡ slots
       → get_elem? s.views id ≡ some me.0 → slice_index s.words 0 < 18446744073709551616 → g (slice_index s.words 0) ≡ slice_index s.words 0
+  -- and with a step that tells a reader of a hit, or the control of a reassignment, that found `g k`, whatever it stores
+  pub no_feigned_hit : (slots id r i : ℕ) (f g : ℕ → ℕ) (me : Mine Q C) (o : Own) → me.0.role ≡ Reader r o
+      → Allows (EpochRule K G lawful names key) slots id me (index_word i) f (λ k m'. hits names (index_word i) me (g k) m')
+      → (s : State (Option C) (View Q)) (h : EpochRule K G lawful names key s) → AllSeated h.world.readers s.views → length s.homes ≡ slots
+      → get_elem? s.views id ≡ some me.0 → slice_index s.words (index_word i) < 18446744073709551616
+      → g (slice_index s.words (index_word i)) ≡ slice_index s.words (index_word i)
+  pub no_feigned_reassign : (slots id i p : ℕ) (f g : ℕ → ℕ) (me : Mine Q C) (d : ControlOwn) → me.0.role ≡ Control d
+      → Allows (EpochRule K G lawful names key) slots id me (index_word i) f (λ k m'. reassigns (index_word i) (p * 4294967296) me (g k) m')
+      → (s : State (Option C) (View Q)) (h : EpochRule K G lawful names key s) → AllSeated h.world.readers s.views → length s.homes ≡ slots
+      → get_elem? s.views id ≡ some me.0 → slice_index s.words (index_word i) < 18446744073709551616
+      → g (slice_index s.words (index_word i)) ≡ slice_index s.words (index_word i)
   -- a reader that is outside loads word 0: it looks
   pub look : (slots id r : ℕ) (me : Mine Q C) (o : Own) → me.0.role ≡ Reader r o → o.phase ≡ Idle
       → Follows K G lawful names key slots id me 0 (λ n. n) (looks me) (event.Look r)
   -- it stores one more than the version that it looked at last in its word: it announces
   pub announce : (slots id r : ℕ) (me : Mine Q C) (o : Own) → me.0.role ≡ Reader r o → o.phase ≡ Idle
-      → Follows K G lawful names key slots id me (1 + r) (λ _. o.last + 1) (λ _ m'. announces me m') (event.Announce r)
+      → Follows K G lawful names key slots id me (announcement_word r) (λ _. o.last + 1) (λ _ m'. announces me m') (event.Announce r)
   -- a reader that has announced loads word 0 and takes its place: it enters
   pub enter : (slots id r a : ℕ) (me : Mine Q C) (o : Own) → me.0.role ≡ Reader r o → o.phase ≡ Standing a
       → Follows K G lawful names key slots id me 0 (λ n. n) (enters lawful names K G me) (event.Enter r)
   -- a reader that has put a lawful value back stores 0 in its word and gives its place back: it leaves
   pub leave : (slots id r a v : ℕ) (me : Mine Q C) (o : Own) (c : C) (cs : List (ℕ × Option C)) → me.0.role ≡ Reader r o → o.phase ≡ Holding a v
       → me.1 ≡ (slot_of (v % K) r, Some c) ∷ cs → lawful me.0.key v c
-      → Follows K G lawful names key slots id me (1 + r) (λ _. 0) (λ _ m'. leaves me m') (event.Leave r)
+      → Follows K G lawful names key slots id me (announcement_word r) (λ _. 0) (λ _ m'. leaves me m') (event.Leave r)
   -- the control loads the word of the first reader that isn't passed: it scans
   pub scan : (slots id : ℕ) (me : Mine Q C) (d : ControlOwn) → me.0.role ≡ Control d → d.passed < d.readers
-      → Follows K G lawful names key slots id me (1 + d.passed) (λ n. n) (scans lawful K me) (event.Scan d.passed)
+      → Follows K G lawful names key slots id me (announcement_word d.passed) (λ n. n) (scans lawful K me) (event.Scan d.passed)
   -- once all readers are passed and the control has put lawful values in all places in hand, it stores the next version in
   -- word 0 and gives the places back: it publishes
   pub publish : (slots id : ℕ) (me : Mine Q C) (d : ControlOwn) (cs : List C) → me.0.role ≡ Control d → d.passed ≡ d.readers
@@ -104,12 +120,12 @@ pub record EachStepFollows {Q C : Type 0} (K G : ℕ) (lawful : Q → ℕ → C 
       → Follows K G lawful names key slots id me 0 (λ _. d.version + 1) (λ _ m'. publishes names me m') (event.Publish (names me.0.key (d.version + 1)))
   -- a reader that has a version in hand adds 1 to the word of an index that the version names: it makes a hit
   pub hit : (slots id r i a v : ℕ) (me : Mine Q C) (o : Own) → me.0.role ≡ Reader r o → o.phase ≡ Holding a v → has_index i (names me.0.key v) ≡ true → length o.hits < most_hits
-      → Follows K G lawful names key slots id me (65 + i) (λ n. (n + 1) % 2 ^ 64) (hits names (65 + i) me) (event.Hit r i)
+      → Follows K G lawful names key slots id me (index_word i) (λ n. (n + 1) % 2 ^ 64) (hits names (index_word i) me) (event.Hit r i)
   -- once all readers are passed, the control swaps a number into the word of an index that no recent version names: it
   -- reassigns
   pub reassign : (slots id i p : ℕ) (me : Mine Q C) (d : ControlOwn) → me.0.role ≡ Control d → d.passed ≡ d.readers → 0 < i → i ≤ G → p ≤ d.numbers
       → ((x : ℕ) → IsRecent K d.version x → has_index i (names me.0.key x) ≡ false) → has_index i d.done ≡ false → d.tallied ≡ []
-      → Follows K G lawful names key slots id me (65 + i) (λ _. p * 4294967296) (reassigns (65 + i) (p * 4294967296) me) (event.Reassign i p)
+      → Follows K G lawful names key slots id me (index_word i) (λ _. p * 4294967296) (reassigns (index_word i) (p * 4294967296) me) (event.Reassign i p)
   -- the control makes a note: it splits
   pub tell : (id : ℕ) (v : View Q) (d : ControlOwn) → v.role ≡ Control d
       → SplitFollows K G lawful names key id v (telling_view v) (as_new noted v) (λ w. step K G w event.Split) (λ es. es ++ event.Split ∷ [])
@@ -133,11 +149,11 @@ pub record EachStepFollows {Q C : Type 0} (K G : ℕ) (lawful : Q → ℕ → C 
   -- index words hold
   pub all_counted : (s : State (Option C) (View Q)) (h : EpochRule K G lawful names key s) (id : ℕ) (v : View Q) (d : ControlOwn)
       → get_elem? s.views id ≡ some v → v.role ≡ Control d → d.readers ≤ length d.ended
-      → (p : ℕ) → hits_of p d.ended ≡ booked_of p d.booked + total (λ i. counts_of p (slice_index s.words (65 + i))) (G + 1)
+      → (p : ℕ) → hits_of p d.ended ≡ booked_of p d.booked + total (λ i. counts_of p (slice_index s.words (index_word i))) (G + 1)
   -- and it loads index words: the world stays, and a word that it has tallied stands as it was found
   pub tally : (slots id i : ℕ) (me : Mine Q C) (d : ControlOwn) → me.0.role ≡ Control d → d.readers ≤ length d.ended → i ≤ G
-      → StepFollows K G lawful names key slots id me (65 + i) (λ n. n) (tallies (65 + i) me) (λ w. w) (λ es. es)
+      → StepFollows K G lawful names key slots id me (index_word i) (λ n. n) (tallies (index_word i) me) (λ w. w) (λ es. es)
   -- what it has tallied of a word is what the word holds
   pub true_tally : (s : State (Option C) (View Q)) (h : EpochRule K G lawful names key s) (id : ℕ) (v : View Q) (d : ControlOwn)
       → get_elem? s.views id ≡ some v → v.role ≡ Control d
-      → (i n : ℕ) → i ≤ G → has_pair i n d.tallied ≡ true → n ≡ slice_index s.words (65 + i)
+      → (i n : ℕ) → i ≤ G → has_pair i n d.tallied ≡ true → n ≡ slice_index s.words (index_word i)

@@ -11,7 +11,7 @@ ghost use Rattle.epoch_core.specs.Rule.{at_key, first_control, opened_view, IsSi
 ghost use Rattle.epoch_core.specs.Plays.{published_control, taken_places, filled_places, Each};
 
 use crate::OutOfMemory;
-use crate::board::{Board, Lawful, Place, READERS, Top, slot_of};
+use crate::board::{Board, Lawful, Place, READERS, Top, WORD_STRIDE, slot_of};
 use crate::copies::{Copies, Held};
 use crate::plays::{Publish, Scan};
 use crate::words::reassign_all;
@@ -159,7 +159,9 @@ impl<Q, T: Lawful<Q> + Drop, const K: u64, const LIVE: u32> ControlSeat<Q, T, K,
     {
         let board = &self.board;
         let reader = usize::from(self.passed);
-        let stands = board.shared.load::<Scan<T, K>>(&mut self.place, 1 + reader);
+        let stands = board
+            .shared
+            .load::<Scan<T, K>>(&mut self.place, WORD_STRIDE * (1 + reader));
         if may_go::<K>(self.version, stands) {
             self.passed += 1;
             None

@@ -52,6 +52,10 @@ pub use view::{ControlOwn, Made, Own, Phase};
 #[cfg(test)]
 mod plain_tests;
 #[cfg(test)]
+mod test_turns;
+#[cfg(test)]
 mod tests;
+#[cfg(test)]
+mod thread_tests;
 #[cfg(test)]
 mod word_tests;

@@ -1,3 +1,4 @@
+//! Worked runs of the plain table.
 use crate::{Event, Pairs, Phase, PlainSpot, PlainWorld};
 use std::test::Fail;
 

@@ -8,7 +8,7 @@ ghost use Rattle.epoch_core.specs.Rule.{IsSized};
 ghost use Rattle.epoch_core.specs.Step.{looked_own, announced_own, entered_own, left_own, hit_own, has_index, has_pair, most_hits};
 ghost use Rattle.epoch_core.specs.World.{first_own};
 
-use crate::board::{Board, FIRST_INDEX_WORD, Lawful, NUMBER, Place, slot_of};
+use crate::board::{Board, FIRST_INDEX_WORD, Lawful, NUMBER, Place, WORD_STRIDE, slot_of};
 use crate::plays::{Announce, Enter, Hit, Leave, Look};
 use std::alloc::Global;
 use std::marker::Model;
@@ -19,7 +19,8 @@ use std::sync::Arc;
 pub struct ReaderSeat<Q, T: Lawful<Q> + Drop, const K: u64, const LIVE: u32> {
     pub(crate) board: Arc<Board<Q, T, K, LIVE>, Global>,
     pub(crate) place: Place<Q, T>,
-    pub(crate) index: u8,
+    // As wide as its neighbours: padding would be copied with each move of the seat.
+    pub(crate) index: usize,
     pub(crate) seen: u64,
 }
 
@@ -40,7 +41,7 @@ impl<Q, T: Lawful<Q> + Drop, const K: u64, const LIVE: u32> Model for ReaderSeat
 pub struct Standing<Q, T: Lawful<Q> + Drop, const K: u64, const LIVE: u32> {
     board: Arc<Board<Q, T, K, LIVE>, Global>,
     place: Place<Q, T>,
-    index: u8,
+    index: usize,
     version: u64,
     value: Arc<T, Global>,
 }
@@ -73,7 +74,7 @@ impl<Q, T: Lawful<Q> + Drop, const K: u64, const LIVE: u32> ReaderSeat<Q, T, K, 
         ReaderSeat {
             board,
             place,
-            index,
+            index: usize::from(index),
             seen: 0,
         }
     }
@@ -113,13 +114,12 @@ impl<Q, T: Lawful<Q> + Drop, const K: u64, const LIVE: u32> ReaderSeat<Q, T, K, 
             seen: _,
         } = self;
         let shared = &board.shared;
-        let reader = usize::from(index);
         let found = shared.load::<Look>(&mut place, 0);
-        shared.store::<Announce>(&mut place, 1 + reader, found + 1);
+        shared.store::<Announce>(&mut place, WORD_STRIDE * (1 + index), found + 1);
         let current = shared.load::<Enter<T, K, LIVE>>(&mut place, 0);
         let bank = (current % K) as usize;
         let value = shared
-            .exchange(&mut place, slot_of(bank, reader), None)
+            .exchange(&mut place, slot_of(bank, index), None)
             .unwrap();
         Standing {
             board,
@@ -175,10 +175,9 @@ impl<Q, T: Lawful<Q> + Drop, const K: u64, const LIVE: u32> Standing<Q, T, K, LI
             value,
         } = self;
         let shared = &board.shared;
-        let reader = usize::from(index);
         let bank = (version % K) as usize;
-        shared.exchange(&mut place, slot_of(bank, reader), Some(value));
-        shared.store::<Leave>(&mut place, 1 + reader, 0);
+        shared.exchange(&mut place, slot_of(bank, index), Some(value));
+        shared.store::<Leave>(&mut place, WORD_STRIDE * (1 + index), 0);
         ReaderSeat {
             board,
             place,

@@ -6,10 +6,10 @@ ghost use Rattle.epoch_core.specs.Rule.{first_control, IsSized, opened_view};
 ghost use Rattle.epoch_core.specs.SeatViews.{AreFirstSeats};
 ghost use Rattle.prefix_width.specs.Limits.{AreBanks, AreTargets, last_index};
 ghost use Rattle.epoch_core.specs.Fresh.{NamesFit};
-ghost use Rattle.epoch_core.specs.Slots.{FirstSlot, FirstSlots};
+ghost use Rattle.epoch_core.specs.Slots.{is_first_slot, FirstSlot, FirstSlots};
 
 use crate::OutOfMemory;
-use crate::board::{About, Board, FIRST_INDEX_WORD, Lawful, Place, READERS};
+use crate::board::{About, Board, FIRST_INDEX_WORD, Lawful, Place, READERS, SLOT_STRIDE};
 use crate::control::ControlSeat;
 use crate::plays::Open;
 use crate::reader::ReaderSeat;
@@ -19,15 +19,24 @@ use std::alloc::Global;
 use std::sync::Arc;
 use thiserror::Error;
 
+/// Whether the slot of this number is a reader's in bank 0.
+fn is_first(readers: usize, place: usize) -> bool
+    requires { readers ≤ 64 }
+    ensures { result ≡ is_first_slot readers place }
+{
+    place % SLOT_STRIDE == 0 && place < SLOT_STRIDE * readers
+}
+
 /// The slot of this number at the start: the first version stands in bank 0.
 fn first_slot<T>(
     readers: usize,
     place: usize,
     first: &Arc<T, Global>,
 ) -> Result<Option<Arc<T, Global>>, OutOfMemory>
+    requires { readers ≤ 64 }
     ensures { IfOk result (FirstSlot (λ c. arc_value c ≡ arc_value first.now) readers place) }
 {
-    if place < readers {
+    if is_first(readers, place) {
         Ok(Some(Arc::try_clone(first)?))
     } else {
         Ok(None)
@@ -41,10 +50,10 @@ fn lay<T: Drop>(
     readers: usize,
     first: &Arc<T, Global>,
 ) -> Result<Vec<Option<Arc<T, Global>>>, OutOfMemory>
-    requires { banks ≤ 8 }
-    ensures { IfOk result (λ v. (length v.items ≡ 64 * banks) × FirstSlots (λ c. arc_value c ≡ arc_value first.now) readers 0 v.items) }
+    requires { (banks ≤ 8) × (readers ≤ 64) }
+    ensures { IfOk result (λ v. (length v.items ≡ 512 * banks) × FirstSlots (λ c. arc_value c ≡ arc_value first.now) readers 0 v.items) }
 {
-    let count = READERS * banks;
+    let count = SLOT_STRIDE * READERS * banks;
     let mut slots = Vec::with_capacity(alloc, count)?;
     for place in 0..count {
         slots.push(first_slot(readers, place, first)?)?;

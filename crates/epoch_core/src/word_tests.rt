@@ -1,138 +1,85 @@
-ghost use Rattle.std.specs.Prelude.{◌≡◌, ◌+◌, ◌*◌, ◌%◌, ◌<◌, ◌≤◌, length, true, All};
+//! Counts by index, with the sums by hand.
+ghost use Rattle.std.specs.Prelude.{◌≡◌, ◌+◌, ◌<◌, ◌≤◌, length};
 ghost use Rattle.prefix_width.specs.Limits.{AreBanks, AreTargets, last_index};
-ghost use Rattle.epoch_core.specs.Step.{has_index};
-ghost use Rattle.epoch_core.specs.Turns.{turns};
 
-use crate::{ControlSeat, Lawful, ReaderSeat, Standing, start};
+use crate::test_turns::{TurnControl, TurnReader, index_of, started, try_turn};
 use std::alloc::Global;
 use std::process::Abort;
-use std::sync::{Arc, Wait};
 use std::test::Fail;
-use std::thread;
 
-/// A number that is lawful for the version that it is. Each version from 1 on names one index of 1
-/// to `K`, in turn, for one number of 1 to 3, in turn.
-#[derive(Drop)]
-struct Turn<const K: u64>(u64);
-
-impl<const K: u64> Lawful<()> for Turn<K> {
-    ghost is_lawful = { λ _ v x. v ≡ x.0 };
-
-    ghost names = { λ _ v. turns K v };
-}
-
-/// The index that the version names, and its number.
-fn turn_of<const K: u64>(version: u64) -> (u16, u32)
-    requires { AreBanks K }
-    ensures { result ≡ (1 + version % K, 1 + version % 3) }
-{
-    ((1 + version % K) as u16, (1 + version % 3) as u32)
-}
-
-/// Places the next version, which no reader holds up.
-#[tactic(auto, using(crate::proofs::TurnLemmas::turn_fresh))]
-fn place_turn<R: Abort, const K: u64, const LIVE: u32>(
+/// Enters, makes so many hits at the index of the version in hand, if it names one, and leaves.
+/// Answers the version. Meanwhile the next one is placed.
+fn hit_beside<R: Abort, const K: u64, const LIVE: u32>(
     rt: &R,
     alloc: Global,
-    control: &mut ControlSeat<(), Turn<K>, K, LIVE>,
-)
+    control: &mut TurnControl<K, 2, LIVE>,
+    seat: TurnReader<K, 2, LIVE>,
+    hits: u64,
+) -> (TurnReader<K, 2, LIVE>, u64)
     requires banks { AreBanks K }
-    requires room { control.old.own.version < 1000000 }
+    requires next { control.old.own.version < 1000000 }
+    requires room { length seat.own.hits + hits ≤ 16777216 }
+    ensures seat { result.0.table ≡ seat.entry.table }
+    ensures hits { length result.0.own.hits ≤ length seat.entry.own.hits + hits }
+    ensures control { (control.new.table ≡ control.old.table) × (control.new.own.readers ≡ control.old.own.readers) }
     ensures version { control.new.own.version ≡ control.old.own.version + 1 }
-    ensures seat { (control.new.table ≡ control.old.table) × (control.new.own.readers ≡ control.old.own.readers) }
 {
-    let next = control.version() + 1;
-    let image = Arc::new(alloc, Turn::<K>(next)).expect(rt, "memory");
-    let fresh = [turn_of::<K>(next)];
-    let copies = control.prepare(alloc, &image, &fresh).expect(rt, "memory");
-    if control.try_place(copies).is_err() {
+    let mut standing = seat.enter();
+    let version = standing.version();
+    if !try_turn(rt, alloc, control) {
         panic!(rt; "held");
     }
-}
-
-/// Makes so many hits at an index that its version names.
-fn hit_all<const K: u64, const LIVE: u32>(
-    standing: &mut Standing<(), Turn<K>, K, LIVE>,
-    index: u16,
-    hits: u64,
-)
-    requires named { has_index index (turns K standing.old.version) ≡ true }
-    requires room { length standing.old.seat.own.hits + hits ≤ 16777216 }
-    ensures seat { standing.new.seat.table ≡ standing.old.seat.table }
-    ensures hits { length standing.new.seat.own.hits ≡ length standing.old.seat.own.hits + hits }
-{
-    for _made in 0..hits {
-        let _number = standing.hit(index);
+    if let Some(index) = index_of::<K, 2>(version) {
+        for _made in 0..hits {
+            let _number = standing.hit(index);
+        }
     }
+    (standing.leave(), version)
 }
 
-/// A table of one reader.
-#[tactic(auto, using(crate::proofs::TurnLemmas::turn_fits))]
-fn one_reader<R: Abort, const K: u64, const LIVE: u32>(
-    rt: &R,
-    alloc: Global,
-) -> (
-    ControlSeat<(), Turn<K>, K, LIVE>,
-    ReaderSeat<(), Turn<K>, K, LIVE>,
-)
-    requires banks { AreBanks K }
-    requires targets { AreTargets LIVE }
-    requires wide { K ≤ last_index K LIVE }
-    ensures control { (result.0.own.readers ≡ 1) × (result.0.own.version ≡ 0) }
-    ensures seat { (result.1.table ≡ result.0.table) × (length result.1.own.hits ≡ 0) }
-{
-    let first = Arc::new(alloc, Turn::<K>(0)).expect(rt, "memory");
-    let Ok((control, mut seats)) = start::<(), Turn<K>, K, LIVE>(alloc, (), 1, 3, &first) else {
-        panic!(rt; "no table");
-    };
-    let seat = seats.pop().expect(rt, "a seat");
-    (control, seat)
-}
-
-/// Enters at version 1, makes one hit and leaves, at version 2 two, and so on to version 8, while
-/// the version behind it is published before the hits; answers the counts at close.
-#[tactic(auto, using(crate::proofs::TurnLemmas::turn_named))]
+/// Makes one hit at version 1, two at version 2 and so on to version 9, and answers the counts at
+/// close.
 fn count_turns<R: Abort, const K: u64, const LIVE: u32>(rt: &R, alloc: Global) -> Vec<(u32, u64)>
     requires banks { AreBanks K }
     requires targets { AreTargets LIVE }
-    requires wide { K ≤ last_index K LIVE }
+    requires wide { 2 ≤ last_index K LIVE }
 {
-    let (mut control, mut seat) = one_reader::<R, K, LIVE>(rt, alloc);
-    place_turn(rt, alloc, &mut control);
-    for hits in 1..9u64 {
-        let mut standing = seat.enter();
-        place_turn(rt, alloc, &mut control);
-        let version = standing.version();
-        if version > 0 {
-            hit_all(&mut standing, turn_of::<K>(version).0, hits);
-        }
-        seat = standing.leave();
+    let (mut control, mut seats) = started::<R, K, 2, LIVE>(rt, alloc, 1);
+    let mut seat = seats.pop().expect(rt, "a seat");
+    for hits in 0..10u64 {
+        let (left, version) = hit_beside(rt, alloc, &mut control, seat, hits);
+        assert_eq!(rt; version, hits);
+        seat = left;
     }
-    let mut ended = Vec::new(alloc);
-    ended.push(seat).expect(rt, "memory");
-    let Ok(closed) = control.close(alloc, ended) else {
+    seats.push(seat).expect(rt, "memory");
+    let Ok(closed) = control.close(alloc, seats) else {
         panic!(rt; "not closed");
     };
-    assert_eq!(rt; closed.version, 9);
+    assert_eq!(rt; closed.version, 10);
     closed.counts
 }
 
 #[test]
-fn counts_are_exact_while_indexes_are_given_again(rt: HostRuntime) -> Result<(), Fail> {
+fn counts_are_exact_while_two_indexes_are_given_again(rt: HostRuntime) -> Result<(), Fail> {
     let alloc: Global = rt.alloc();
-    // The v hits at version v are at number 1 + v mod 3.
-    let by_hand = [(1, 3 + 6), (2, 1 + 4 + 7), (3, 2 + 5 + 8u64)];
-    assert_eq!(rt;
-        count_turns::<_, 2, 1>(&rt, alloc).as_slice(),
-        by_hand.as_slice()
-    );
-    assert_eq!(rt;
-        count_turns::<_, 4, 2047>(&rt, alloc).as_slice(),
-        by_hand.as_slice()
-    );
-    assert_eq!(rt;
-        count_turns::<_, 8, 4095>(&rt, alloc).as_slice(),
-        by_hand.as_slice()
-    );
+    // A version names an index where it is 0 or 1 mod K, and the v hits at version v are at number
+    // 1 + v mod 3. So 2 banks have hits at each version, 4 at 1, 4, 5, 8 and 9, 8 at 1, 8 and 9.
+    let rows = [
+        (
+            count_turns::<_, 2, 1>(&rt, alloc),
+            [(1, 3 + 6 + 9), (2, 1 + 4 + 7), (3, 2 + 5 + 8u64)],
+        ),
+        (
+            count_turns::<_, 4, 2047>(&rt, alloc),
+            [(1, 9), (2, 1 + 4), (3, 5 + 8)],
+        ),
+        (
+            count_turns::<_, 8, 4095>(&rt, alloc),
+            [(1, 9), (2, 1), (3, 8)],
+        ),
+    ];
+    for (counts, by_hand) in rows {
+        assert_eq!(rt; counts.as_slice(), by_hand.as_slice());
+    }
     Ok(())
 }

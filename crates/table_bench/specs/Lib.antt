@@ -1,3 +1,4 @@
-pub mod Fault
+pub mod Live
 pub mod Phases
+pub mod Versions
 pub mod Words

@@ -1,26 +1,31 @@
 -- What the words of the command line ask.
-use Rattle.std.specs.Prelude.{◌≡◌, ◌≤◌, ℕ, List, [], ◌∷◌, Option, Some, None, codes, bytes_eq, IsTrue}
+use Rattle.std.specs.Prelude.{◌≡◌, ◌≤◌, ℕ, List, [], ◌∷◌, Option, Some, None, codes, bytes_eq, IsTrue, false, ⊤}
 use Rattle.std.specs.Option.{SomeIff}
-use Rattle.std.specs.Str.Parse.{IsNumeral, digits_value, without_leading_plus}
+use Rattle.bench_kit.specs.Words.{IsNumberTo, number_of}
 use Rattle.rib_store.specs.Limits.{routes_max}
 use Rattle.table_bench.specs.declared.job.Job.{Job}
-use Rattle.table_bench.specs.declared.job.Job.TheVariants.{Counts, Time}
+use Rattle.table_bench.specs.declared.job.Job.TheVariants.{Counts, Time, Indexes}
 
--- the number that decimal digits write, behind a plus or not
-abbrev pub number_of : List ℕ → ℕ
-number_of text = digits_value 10 (without_leading_plus text)
+-- a text that writes a number from 1 on between these, both included
+abbrev pub IsCount : ℕ → ℕ → List ℕ → Type 0
+IsCount least most text = IsNumberTo most text × (least ≤ number_of text)
 
--- a text that writes a number of routes that may be measured
-abbrev pub IsCount : List ℕ → Type 0
-IsCount text = IsNumeral 10 (without_leading_plus text) × (1 ≤ number_of text) × (number_of text ≤ routes_max)
+-- `time` and a number of routes ask for the times of the table, `indexes` and a number of live targets for those of
+-- lists and versions, and other words for nothing
+pub record AsksTimes (word number : List ℕ) (job : Option Job) : Type 0 where
+  pub time : IsTrue (bytes_eq word (codes "time")) → SomeIff job (IsCount 1 routes_max number) (Time (number_of number))
+  pub indexes : IsTrue (bytes_eq word (codes "indexes")) → SomeIff job (IsCount 8 4095 number) (Indexes (number_of number))
+  pub other : bytes_eq word (codes "time") ≡ false → bytes_eq word (codes "indexes") ≡ false → job ≡ None
 
--- `time` and a number of routes ask for the times
-abbrev pub AsksTime : List ℕ → List ℕ → Option Job → Type 0
-AsksTime word number job = SomeIff job (IsTrue (bytes_eq word (codes "time")) × IsCount number) (Time (number_of number))
-
--- no words ask for the counts, `time N` for the times, and other words for nothing
+-- no words ask for the counts, two for times, and other words for nothing
 abbrev pub Asks : List (List ℕ) → Option Job → Type 0
 Asks [] job = job ≡ Some Counts
 Asks (word ∷ []) job = job ≡ None
-Asks (word ∷ number ∷ []) job = AsksTime word number job
+Asks (word ∷ number ∷ []) job = AsksTimes word number job
 Asks (word ∷ number ∷ more ∷ words) job = job ≡ None
+
+-- what holds of each job that is asked: the numbers are those that may be measured
+abbrev pub IsJob : Job → Type 0
+IsJob Counts = ⊤
+IsJob (Time count) = (1 ≤ count) × (count ≤ routes_max)
+IsJob (Indexes count) = (8 ≤ count) × (count ≤ 4095)

@@ -1,47 +1,61 @@
-ghost use Rattle.std.specs.Prelude.{map};
+//! What a run does.
+ghost use Rattle.std.specs.Prelude.{◌≤◌, map, IfSome};
 ghost use Rattle.std.specs.Option.{SomeIff};
 ghost use Rattle.std.specs.String.{string_bytes};
-ghost use Rattle.table_bench.specs.Words.{Asks, AsksTime, IsCount, number_of};
+ghost use Rattle.bench_kit.specs.Words.{number_of};
+ghost use Rattle.table_bench.specs.Words.{Asks, AsksTimes, IsCount, IsJob};
 
+use crate::live::TARGETS_MAX;
+use bench_kit::number_in;
 use rib_store::ROUTES_MAX;
+
+/// The least number of live targets that may be measured: three routes change, and those of the
+/// groups do not.
+const TARGETS_LEAST: u32 = 8;
 
 /// What a run does.
 #[derive(Clone, Copy)]
 pub(crate) enum Job {
-    /// Prints the counts at 1,000 routes.
+    /// Prints the counts at 1,000 routes and at 1,000 live targets.
     Counts,
-    /// Measures at so many routes.
+    /// Measures the table at so many routes.
     Time(u32),
+    /// Measures lists and versions at so many live targets.
+    Indexes(u32),
 }
 
-/// The job of the words behind the program's name: none, or `time` and a number of routes from 1
-/// to [`ROUTES_MAX`].
+/// The job of the words behind the program's name: none, `time` and a number of routes from 1 to
+/// [`ROUTES_MAX`], or `indexes` and a number of live targets from 8 to [`TARGETS_MAX`].
 pub(crate) fn job_of(words: &[String]) -> Option<Job>
-    ensures { Asks (map string_bytes words.now) result }
+    ensures words { Asks (map string_bytes words.now) result }
+    ensures bounds { IfSome result IsJob }
 {
     match words {
         [] => Some(Job::Counts),
-        [word, number] => time_of(word.as_str(), number.as_str()),
+        [word, number] => times_of(word.as_str(), number.as_str()),
         _ => None,
     }
 }
 
-/// The job of two words: `time` and a number of routes.
-fn time_of(word: &str, number: &str) -> Option<Job>
-    ensures { AsksTime word.now number.now result }
+/// The job of two words: what is measured, and at how many.
+fn times_of(word: &str, number: &str) -> Option<Job>
+    ensures words { AsksTimes word.now number.now result }
+    ensures bounds { IfSome result IsJob }
 {
     match word {
-        "time" => Some(Job::Time(count_of(number)?)),
+        "time" => Some(Job::Time(count_of(number, 1, ROUTES_MAX)?)),
+        "indexes" => Some(Job::Indexes(count_of(number, TARGETS_LEAST, TARGETS_MAX)?)),
         _ => None,
     }
 }
 
-/// A number of routes that may be measured.
-fn count_of(text: &str) -> Option<u32>
-    ensures { SomeIff result (IsCount text.now) (number_of text.now) }
+/// A number from 1 on between these, both included.
+fn count_of(text: &str, least: u32, most: u32) -> Option<u32>
+    ensures number { SomeIff result (IsCount least most text.now) (number_of text.now) }
+    ensures bounds { IfSome result (λ count. (least ≤ count) × (count ≤ most)) }
 {
-    match text.parse::<u32>() {
-        Ok(count) if 1 <= count && count <= ROUTES_MAX => Some(count),
+    match number_in(text, u64::from(most)) {
+        Some(count) if u64::from(least) <= count => Some(count as u32),
         _ => None,
     }
 }

@@ -1,34 +1,35 @@
-//! `table_bench`: what a command costs by the route table, beside the same on a bare ordered map.
+//! `table_bench`: what a command costs by the route table, beside the same on a bare ordered map,
+//! and what the live targets and their indexes cost at a new version.
 //!
-//! With no words it prints how many of 1,000 adds, changes and deletes do what they ask. With
-//! `time N` it prints what each takes at N routes.
+//! With no words it prints how many of 1,000 adds, changes and deletes do what they ask, and how
+//! many elements lists and versions of 1,000 live targets have. With `time N` it prints what each
+//! command takes at N routes, with `indexes N` what lists and versions take at N live targets.
 #![tactic(auto)]
 
-mod fault;
+ghost use Rattle.std.specs.Prelude.{IfOk};
+ghost use Rattle.table_bench.specs.Words.{IsJob};
+
+mod index_report;
 mod job;
+mod lists;
+mod live;
 mod map;
 mod measure;
 mod report;
 mod routes;
 mod table;
+mod versions;
 
-use fault::Fault;
+use bench_kit::{Fault, end, words_of};
 use job::{Job, job_of};
 use report::work;
 pub use std::alloc::AllocError as OutOfMemory;
 use std::process::ExitCode;
 use std::rt::Env;
 use std::time::CpuClock;
-use std::{env, io};
 
 fn main(rt: HostRuntime) -> ExitCode {
-    match run(&rt) {
-        Ok(()) => ExitCode::from(0),
-        Err(fault) => {
-            let _ = rt.eprintln(fault);
-            ExitCode::from(fault.code())
-        }
-    }
+    end(&rt, "table_bench", "[time N | indexes N]", run(&rt))
 }
 
 /// Does the job of the words behind the program's name.
@@ -38,13 +39,10 @@ fn run<R: Env + Print + AllocGlobal + CpuClock>(rt: &R) -> Result<(), Fault> {
 }
 
 /// The job of the words behind the program's name.
-fn read_job<R: Env + AllocGlobal>(rt: &R) -> Result<Job, Fault> {
-    let args = match env::args(rt) {
-        Ok(args) => args,
-        Err(error) if error.kind() == io::ErrorKind::OutOfMemory => return Err(Fault::OutOfMemory),
-        Err(_) => return Err(Fault::Usage),
-    };
-    let words: Vec<String> = args.skip(1).collect(rt.alloc())?;
+fn read_job<R: Env + AllocGlobal>(rt: &R) -> Result<Job, Fault>
+    ensures { IfOk result IsJob }
+{
+    let words = words_of(rt)?;
     match job_of(words.as_slice()) {
         Some(job) => Ok(job),
         None => Err(Fault::Usage),

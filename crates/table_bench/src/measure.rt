@@ -1,11 +1,12 @@
+//! The times of commands.
 ghost use Rattle.std.specs.Prelude.{◌≡◌, IfOk, OnOk, length};
 ghost use Rattle.std.specs.List.{count_by};
 ghost use Rattle.table_bench.specs.Phases.{replies, table_from, is_done, map_from};
 
-use crate::fault::Fault;
 use crate::map::put_all;
 use crate::routes::Phase;
 use crate::table::apply_all;
+use bench_kit::{Fault, cpu_time};
 use prefix_width::{Path, Prefix};
 use rib_store::{Command, Rib};
 use std::collections::BTreeMap;
@@ -22,6 +23,17 @@ pub(crate) struct Figures {
     pub(crate) map: Duration,
 }
 
+/// What rounds of the same come to.
+#[derive(Clone, Copy)]
+pub(crate) struct Rounds {
+    /// How many elements come of the last.
+    pub(crate) count: usize,
+    /// The processor time of the round that takes the least.
+    pub(crate) least: Duration,
+    /// How often a round does it.
+    pub(crate) times: u32,
+}
+
 /// Does the commands of a phase on the table, and what they ask on the bare map.
 pub(crate) fn measure<R: CpuClock + AllocGlobal, const LIVE: u32>(
     rt: &R,
@@ -34,22 +46,14 @@ pub(crate) fn measure<R: CpuClock + AllocGlobal, const LIVE: u32>(
     ensures table { OnOk result (table.new ≡ table_from LIVE table.old commands.now) }
     ensures map { OnOk result (map.new.entries ≡ map_from map.old.entries commands.now) }
 {
-    let start = time(rt)?;
+    let start = cpu_time(rt)?;
     let done = apply_all(table, rt.alloc(), phase, commands)?;
-    let middle = time(rt)?;
+    let middle = cpu_time(rt)?;
     put_all(map, commands)?;
-    let end = time(rt)?;
+    let end = cpu_time(rt)?;
     Ok(Figures {
         done,
         table: middle.saturating_sub(start),
         map: end.saturating_sub(middle),
     })
-}
-
-/// The processor time that this thread has used.
-fn time<R: CpuClock>(rt: &R) -> Result<Duration, Fault> {
-    match rt.thread_cpu_time() {
-        Ok(time) => Ok(time),
-        Err(_) => Err(Fault::Clock),
-    }
 }

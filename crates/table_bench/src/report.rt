@@ -1,25 +1,39 @@
-ghost use Rattle.std.specs.Prelude.{◌≤◌};
+//! What is printed.
+ghost use Rattle.table_bench.specs.Words.{IsJob};
 
-use crate::fault::{Fault, print_fault};
+use crate::index_report::report_indexes;
 use crate::job::Job;
+use crate::live::TARGETS_MAX;
 use crate::measure::{Figures, measure};
 use crate::routes::{Phase, commands_of};
+use bench_kit::{Fault, printed, tenths};
 use rib_store::Rib;
 use std::collections::BTreeMap;
 use std::time::CpuClock;
 
-/// At how many routes the counts are printed.
+/// At how many routes, and at how many live targets, the counts are printed.
 const COUNTED: u32 = 1_000;
 
-/// How many live targets the table has room for.
-const TARGETS_MAX: u32 = 4_095;
-
 /// Does a job.
-pub(crate) fn work<R: Print + AllocGlobal + CpuClock>(rt: &R, job: Job) -> Result<(), Fault> {
-    let count = match job {
-        Job::Counts => COUNTED,
-        Job::Time(count) => count,
-    };
+pub(crate) fn work<R: Print + AllocGlobal + CpuClock>(rt: &R, job: Job) -> Result<(), Fault>
+    requires { IsJob job }
+{
+    match job {
+        Job::Counts => {
+            report_commands(rt, false, COUNTED)?;
+            report_indexes(rt, false, COUNTED)
+        }
+        Job::Time(count) => report_commands(rt, true, count),
+        Job::Indexes(count) => report_indexes(rt, true, count),
+    }
+}
+
+/// Does the phases on so many routes, and prints what they come to: times or counts.
+fn report_commands<R: Print + AllocGlobal + CpuClock>(
+    rt: &R,
+    timed: bool,
+    count: u32,
+) -> Result<(), Fault> {
     let mut table = Rib::<32, TARGETS_MAX>::new(rt.alloc());
     let mut map = BTreeMap::new(rt.alloc());
     for (name, phase) in [
@@ -29,9 +43,10 @@ pub(crate) fn work<R: Print + AllocGlobal + CpuClock>(rt: &R, job: Job) -> Resul
     ] {
         let commands = commands_of(rt.alloc(), phase, count)?;
         let figures = measure(rt, &mut table, &mut map, phase, commands.as_slice())?;
-        match job {
-            Job::Counts => print_counts(rt, name, &figures, table.len(), map.len())?,
-            Job::Time(_) => print_times(rt, name, &figures, count)?,
+        if timed {
+            print_times(rt, name, &figures, count)?;
+        } else {
+            print_counts(rt, name, &figures, table.len(), map.len())?;
         }
     }
     Ok(())
@@ -46,12 +61,9 @@ fn print_counts<R: Print>(
     entries: usize,
 ) -> Result<(), Fault> {
     let done = figures.done;
-    match println!(rt;
+    printed(println!(rt;
         "{name} {COUNTED}: {done} done, {routes} routes, {entries} entries of the map"
-    ) {
-        Ok(()) => Ok(()),
-        Err(error) => Err(print_fault(&error)),
-    }
+    ))
 }
 
 /// Prints what a command of the phase takes, and what the same takes on the map.
@@ -61,19 +73,7 @@ fn print_times<R: Print>(rt: &R, name: &str, figures: &Figures, count: u32) -> R
     let (table_nanos, table_tenths) = tenths(table, u128::from(count));
     let (map_nanos, map_tenths) = tenths(map, u128::from(count));
     let (times, time_tenths) = tenths(table, map);
-    match println!(rt;
+    printed(println!(rt;
         "{name} {count}: {table_nanos}.{table_tenths} ns by the table, {map_nanos}.{map_tenths} ns by the map, {times}.{time_tenths} times, {done} done"
-    ) {
-        Ok(()) => Ok(()),
-        Err(error) => Err(print_fault(&error)),
-    }
-}
-
-/// A quotient, cut off behind its first decimal: the whole part and the tenths. By 0 it divides as
-/// by 1.
-fn tenths(dividend: u128, divisor: u128) -> (u128, u128)
-    ensures { result.1 ≤ 9 }
-{
-    let all = dividend.saturating_mul(10) / divisor.max(1);
-    (all / 10, all % 10)
+    ))
 }

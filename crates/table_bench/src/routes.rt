@@ -1,3 +1,4 @@
+//! Drawn routes.
 ghost use Rattle.std.specs.Prelude.{◌≡◌, ◌+◌, ◌*◌, ◌<◌, ◌^◌, IfOk, Some, length};
 ghost use Rattle.prefix_width.specs.Prefix.{masked_block};
 ghost use Rattle.table_bench.specs.Phases.{command_on, next_number, path_by};
@@ -70,7 +71,7 @@ fn command_of(phase: Phase, prefix: Prefix<32>, place: u32) -> Command<32>
 }
 
 /// The /24 that holds the address.
-fn prefix_of(addr: Addr<32>) -> Prefix<32>
+pub(crate) fn prefix_of(addr: Addr<32>) -> Prefix<32>
     ensures { result ≡ masked_block 32 addr 24 }
 {
     match Prefix::masked(addr, 24) {
@@ -80,7 +81,7 @@ fn prefix_of(addr: Addr<32>) -> Prefix<32>
 }
 
 /// The first address of the /24 of a number.
-fn address_of(number: u64) -> Option<Addr<32>>
+pub(crate) fn address_of(number: u64) -> Option<Addr<32>>
     requires { number < 2 ^ 18 }
     ensures { result ≡ Some (2 ^ 28 + number * 256) }
 {
@@ -88,8 +89,8 @@ fn address_of(number: u64) -> Option<Addr<32>>
 }
 
 /// The path by the gateway of a number.
-fn path_by(gateway: u32) -> Path<32>
-    requires { gateway < 16 }
+pub(crate) fn path_by(gateway: u32) -> Path<32>
+    requires { gateway < 2 ^ 16 }
     ensures { result ≡ path_by gateway }
 {
     let Some(addr) = Addr::new(u128::from(NET + 1 + gateway)) else {

@@ -2,7 +2,7 @@ use Rattle.std.proofs.Common.{◌≡◌, ◌<◌, ◌≤◌, ◌+◌, ◌*◌, �
 use Rattle.std.specs.Arc.{arc_value}
 use Rattle.prefix_width.specs.Limits.{last_index}
 use Rattle.epoch_core.specs.Counts.{from_greatest, IsCounted}
-use Rattle.epoch_core.specs.Rule.{at_key, names_at_key, control_own}
+use Rattle.epoch_core.specs.Rule.{at_key, names_at_key, control_own, index_word}
 use Rattle.epoch_core.specs.declared.view.ControlOwn.{ControlOwn}
 use Rattle.epoch_core.proofs.SeatLemmas.{word_room}
 use Rattle.epoch_core.proofs.TallyLemmas.{after_tally, counted_after, tallied_length, tallied_more}
@@ -12,7 +12,7 @@ use Rattle.epoch_core.proofs.words.tally.Goals as goal
 pub load-found-requires : goal.load-found-requires
 load-found-requires g c = let asked = c.requires in let sized = asked.table.1 in let G : ℕ = last_index g.row.K g.row.LIVE in let low = asked.index.0 in (
   asked.table.0,
-  word_room _ _ _ _ asked.table.1 asked.table.0 (65 + c.args.index) (omega arith),
+  word_room _ _ _ _ asked.table.1 asked.table.0 (index_word c.args.index) (omega arith),
   tallying_at g.row.K (last_index g.row.K g.row.LIVE) sized.0.0.0 (at_key (λ q v c'. g.T.Lawful.is_lawful q v (arc_value c'))) (names_at_key g.T.Lawful.names) _ _ _ _ c.args.index _ (control_own c.args.place.now) asked.role asked.ended low refl,
 )
 

@@ -1,6 +1,6 @@
 use Rattle.std.proofs.Common.{◌≡◌, ◌<◌, ◌+◌, lit≤, refl, sym, ap, ◌∙◌, subst, arith, true}
 use Rattle.std.specs.Arc.{arc_value}
-use Rattle.epoch_core.specs.Rule.{at_key, names_at_key, control_own}
+use Rattle.epoch_core.specs.Rule.{at_key, names_at_key, control_own, announcement_word}
 use Rattle.epoch_core.specs.declared.event.Event.TheVariants as event
 use Rattle.epoch_core.specs.History.{OneMore}
 use Rattle.epoch_core.specs.Plays.{view}
@@ -16,8 +16,8 @@ load-stands-requires g c = let inv = c.self.invariant in let at = ap (λ t. t.sh
     let desk_is = ap (λ s. s.own) c.self.view_is in let more : (control_own c.self.inside.place).passed < (control_own c.self.inside.place).readers = rw desk_is asked in let word = c.from-reader.ensures in
     let index : c.from-reader.result ≡ (control_own c.self.inside.place).passed = word ∙ sym numbers.1 in (
       inv.table ∙ at,
-      room _ _ _ _ inv.sized at (1 + c.from-reader.result) (omega arith),
-      scanning_at g.row.K (last_index g.row.K g.row.LIVE) inv.sized.0.0.0 (at_key (λ q v c'. g.T.Lawful.is_lawful q v (arc_value c'))) (names_at_key g.T.Lawful.names) _ _ _ _ _ (control_own c.self.inside.place) inv.role more (ap (λ k. 1 + k) index),
+      room _ _ _ _ inv.sized at (announcement_word c.from-reader.result) (omega arith),
+      scanning_at g.row.K (last_index g.row.K g.row.LIVE) inv.sized.0.0.0 (at_key (λ q v c'. g.T.Lawful.is_lawful q v (arc_value c'))) (names_at_key g.T.Lawful.names) _ _ _ _ _ (control_own c.self.inside.place) inv.role more (ap (λ k. announcement_word k) index),
     )
 
 pub may_go-requires-clause-numbers : goal.may_go-requires-clause-numbers

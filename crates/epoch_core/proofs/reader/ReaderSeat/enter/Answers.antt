@@ -1,9 +1,9 @@
-use Rattle.std.proofs.Common.{◌≡◌, ◌<◌, ◌+◌, ◌%◌, lit≤, lit<, ℕ, List, sym, ap, ◌∙◌, arith, true, Option, Some, subst}
+use Rattle.std.proofs.Common.{refl, ◌≡◌, ◌<◌, ◌+◌, lit<, ℕ, List, sym, ap, ◌∙◌, arith, true, Option, Some, subst}
 use Rattle.std.specs.Arc.{arc_value}
 use Rattle.epoch_core.specs.declared.event.Event.TheVariants as event
 use Rattle.epoch_core.specs.declared.view.Made.{Made}
 use Rattle.epoch_core.specs.History.{OneMore, EnterSteps}
-use Rattle.epoch_core.specs.Rule.{at_key, names_at_key, slot_of, own}
+use Rattle.epoch_core.specs.Rule.{at_key, names_at_key, slot_of, own, announcement_word}
 use Rattle.epoch_core.specs.declared.view.Role.TheVariants.{Reader}
 use Rattle.epoch_core.specs.Plays.{view}
 use Rattle.epoch_core.specs.Step.{has_pair, looked_own, announced_own, entered_own}
@@ -23,12 +23,12 @@ load-found-requires g c = let inv = c.self.invariant in let at = ap (λ t. t.sha
 
 pub store-requires : goal.store-requires
 store-requires g c = let inv = c.self.invariant in let at = ap (λ t. t.shared.table_id) (sym c.deref.ensures) in
-    let looked = c.load-found.ensures in let now = after_looks _ _ c.self.inside.place c.load-found.new.seat _ _ _ _ inv.reader looked.0 _ looked.2 in let at_index : c.from-reader.result ≡ c.self.inside.index = c.from-reader.ensures in
-    let near : c.from-reader.result < 64 = rw at_index inv.reader.number in (
+    let looked = c.load-found.ensures in let now = after_looks _ _ c.self.inside.place c.load-found.new.seat _ _ _ _ inv.reader looked.0 _ looked.2 in
+    let near : c.self.inside.index < 64 = inv.reader.number in (
       now.0.reader.table ∙ at,
-      room _ _ _ _ inv.reader.sized at (1 + c.from-reader.result) (omega arith),
+      room _ _ _ _ inv.reader.sized at (announcement_word c.self.inside.index) (omega arith),
       announcing_at g.row.K (last_index g.row.K g.row.LIVE) inv.reader.sized.0.0.0 (at_key (λ q v c'. g.T.Lawful.is_lawful q v (arc_value c'))) (names_at_key g.T.Lawful.names) _ _ _ _ _ _ c.self.inside.index (own c.load-found.new.seat) (role_of _ _ _ _ _ _ _ now.0.reader)
-          (ap (λ o. o.phase) now.0.facts ∙ inv.idle) (ap (λ k. 1 + k) at_index) (ap (λ o. o.last + 1) (sym now.0.facts)),
+          (ap (λ o. o.phase) now.0.facts ∙ inv.idle) refl (ap (λ o. o.last + 1) (sym now.0.facts)),
     )
 
 pub load-current-requires : goal.load-current-requires
@@ -46,7 +46,7 @@ exchange-requires g c = let inv = c.self.invariant in let at = ap (λ t. t.share
     let stood = c.store.ensures in let then_all = after_announces _ _ c.load-found.new.seat c.store.new.seat _ _ _ _ now.0.reader stood.0 stood.2 in let then = then_all.0 in
     let entered = c.load-current.ensures in let in_ = after_enters _ _ c.store.new.seat c.load-current.new.seat _ _ _ _ then.reader entered.0 (at_key (λ q v c'. g.T.Lawful.is_lawful q v (arc_value c'))) (names_at_key g.T.Lawful.names) _ _ entered.2 in (
       in_.1.reader.table ∙ at,
-      in_hand_at _ _ _ _ _ (carries _ _ _ _ _ _ _ in_.1.reader) (c.slot_of.ensures ∙ ap (λ k. slot_of (c.load-current.result % g.row.K) k) c.from-reader.ensures),
+      in_hand_at _ _ _ _ _ (carries _ _ _ _ _ _ _ in_.1.reader) c.slot_of.ensures,
     )
 
 pub invariant_of-result : goal.invariant_of-result
@@ -58,7 +58,7 @@ invariant_of-result g c = let inv = c.self.invariant in
     let facts = out.facts ∙ (in_.1.facts ∙ ap (entered_own c.load-current.result) (then.facts ∙ ap announced_own now.0.facts)) in
     let got : c.exchange.result ≡ Some in_.0 = same_value _ _ _ _ _ _ _ (carries _ _ _ _ _ _ _ in_.1.reader) moved.2 in
     let same : c.unwrap-value.result ≡ in_.0 = cc in record {
-      reader = renumber _ _ _ _ _ _ _ _ _ out.reader (c.slot_of.ensures ∙ ap (λ k. slot_of (c.load-current.result % g.row.K) k) c.from-reader.ensures);
+      reader = renumber _ _ _ _ _ _ _ _ _ out.reader c.slot_of.ensures;
       holding = ap (λ o. o.phase) facts ∙ ap (λ o. Holding o.last c.load-current.result) (sym facts);
       seen = ap (λ o. o.seen) facts;
       fair = let L = at_key (λ q v c'. g.T.Lawful.is_lawful q v (arc_value c')) in subst (λ (u : Option g.row.Q.Denot × _). L u.0 c.load-current.result u.1) (λ i. (then.reader.keyed i, sym same i)) in_.2;

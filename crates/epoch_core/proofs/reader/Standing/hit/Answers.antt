@@ -1,6 +1,6 @@
 use Rattle.std.proofs.Common.{◌≡◌, ◌<◌, ◌+◌, ◌/◌, ℕ, List, true, lit≤, refl, sym, ap, ◌∙◌, arith, Option, Some, length, subst}
 use Rattle.std.specs.Arc.{arc_value}
-use Rattle.epoch_core.specs.Rule.{at_key, names_at_key, own}
+use Rattle.epoch_core.specs.Rule.{at_key, names_at_key, own, index_word}
 use Rattle.epoch_core.specs.declared.event.Event.TheVariants as event
 use Rattle.epoch_core.specs.History.{OneMore}
 use Rattle.epoch_core.specs.declared.view.Phase.TheVariants.{Holding}
@@ -26,14 +26,14 @@ fetch_add-found-requires g c = let inv = c.self.invariant in let at = ap (λ t. 
     let low = (inv.within c.args.index pair.0 (subst (λ (q : Option g.row.Q.Denot). has_pair c.args.index pair.0 (names q c.self.inside.version) ≡ true) key pair.1)).1 in
     let G : ℕ = last_index g.row.K g.row.LIVE in (
       inv.reader.table ∙ at,
-      word_room _ _ _ _ inv.reader.sized at (65 + c.from-word.result) (omega arith),
+      word_room _ _ _ _ inv.reader.sized at (index_word c.from-word.result) (omega arith),
       hitting_at g.row.K (last_index g.row.K g.row.LIVE) inv.reader.sized.0.0.0 (at_key (λ q v c'. g.T.Lawful.is_lawful q v (arc_value c'))) names _ _ _ _ _ c.self.inside.index c.args.index (own c.self.inside.place) _ c.self.inside.version
-          (role_of _ _ _ _ _ _ _ inv.reader) inv.holding named few (ap (λ k. 65 + k) index),
+          (role_of _ _ _ _ _ _ _ inv.reader) inv.holding named few (ap (λ k. index_word k) index),
     )
 
 pub invariant_of-self : goal.invariant_of-self
 invariant_of-self g c = let inv = c.self.invariant in let did = c.fetch_add-found.ensures in
-    let now = after_hits _ _ c.self.inside.place c.fetch_add-found.new.seat _ _ _ _ inv.reader did.0 (names_at_key g.T.Lawful.names) _ _ c.args.index (ap (λ k. 65 + k) c.from-word.ensures) did.2 in record {
+    let now = after_hits _ _ c.self.inside.place c.fetch_add-found.new.seat _ _ _ _ inv.reader did.0 (names_at_key g.T.Lawful.names) _ _ c.args.index (ap (λ k. index_word k) c.from-word.ensures) did.2 in record {
       reader = now.0.reader;
       holding = ap (λ o. o.phase) now.0.facts ∙ (inv.holding ∙ ap (λ o. Holding o.last c.self.inside.version) (sym now.0.facts));
       seen = ap (λ o. o.seen) now.0.facts ∙ inv.seen;
@@ -43,7 +43,7 @@ invariant_of-self g c = let inv = c.self.invariant in let did = c.fetch_add-foun
 
 pub returns-clause-number : goal.returns-clause-number
 returns-clause-number g c = let inv = c.self.invariant in let did = c.fetch_add-found.ensures in
-    let now = after_hits _ _ c.self.inside.place c.fetch_add-found.new.seat _ _ _ _ inv.reader did.0 (names_at_key g.T.Lawful.names) _ _ c.args.index (ap (λ k. 65 + k) c.from-word.ensures) did.2 in
+    let now = after_hits _ _ c.self.inside.place c.fetch_add-found.new.seat _ _ _ _ inv.reader did.0 (names_at_key g.T.Lawful.names) _ _ c.args.index (ap (λ k. index_word k) c.from-word.ensures) did.2 in
     let value = c.self.view_is in
     let index : c.from-word.result ≡ c.args.index = c.from-word.ensures in
     let pair = index_pair c.args.index _ c.requires.named in
@@ -56,12 +56,12 @@ returns-clause-number g c = let inv = c.self.invariant in let did = c.fetch_add-
 
 pub returns-clause-step : goal.returns-clause-step
 returns-clause-step g c = let inv = c.self.invariant in let did = c.fetch_add-found.ensures in
-    let now = after_hits _ _ c.self.inside.place c.fetch_add-found.new.seat _ _ _ _ inv.reader did.0 (names_at_key g.T.Lawful.names) _ _ c.args.index (ap (λ k. 65 + k) c.from-word.ensures) did.2 in
+    let now = after_hits _ _ c.self.inside.place c.fetch_add-found.new.seat _ _ _ _ inv.reader did.0 (names_at_key g.T.Lawful.names) _ _ c.args.index (ap (λ k. index_word k) c.from-word.ensures) did.2 in
     (c.fetch_add-found.result, subst (λ v. OneMore v.seat.steps (event.Hit v.seat.number c.args.index) c.fetch_add-found.result c.fetch_add-found.new.seat.me.0.steps) c.self.view_is now.2)
 
 pub returns-clause-seat : goal.returns-clause-seat
 returns-clause-seat g c = let inv = c.self.invariant in let did = c.fetch_add-found.ensures in
-    let now = after_hits _ _ c.self.inside.place c.fetch_add-found.new.seat _ _ _ _ inv.reader did.0 (names_at_key g.T.Lawful.names) _ _ c.args.index (ap (λ k. 65 + k) c.from-word.ensures) did.2 in
+    let now = after_hits _ _ c.self.inside.place c.fetch_add-found.new.seat _ _ _ _ inv.reader did.0 (names_at_key g.T.Lawful.names) _ _ c.args.index (ap (λ k. index_word k) c.from-word.ensures) did.2 in
     let steps = c.fetch_add-found.new.seat.me.0.steps in
     let n : ℕ = c.fetch_add-found.result / 4294967296 in
     (λ i. let v : StandingView g.row.Q.Denot g.row.T.Denot = record { seat = record { table = did.0 i; key = (arc_value c.self.inside.board).shared.key.key; number = c.self.inside.index; own = now.0.facts i; steps = steps }; version = c.self.inside.version; value = arc_value c.self.inside.value } in v)

@@ -1,8 +1,8 @@
-use Rattle.std.proofs.Common.{◌≡◌, ◌<◌, ◌+◌, ◌%◌, lit≤, sym, ap, ◌∙◌, arith, Option, Some, [], ◌∷◌, subst}
+use Rattle.std.proofs.Common.{refl, sym, ap, ◌∙◌, ◌<◌, arith, Option, Some, [], ◌∷◌, subst}
 use Rattle.std.specs.Arc.{arc_value}
 use Rattle.epoch_core.specs.declared.event.Event.TheVariants as event
 use Rattle.epoch_core.specs.History.{OneMore}
-use Rattle.epoch_core.specs.Rule.{at_key, names_at_key, slot_of, own}
+use Rattle.epoch_core.specs.Rule.{at_key, names_at_key, slot_of, own, announcement_word}
 use Rattle.epoch_core.specs.Step.{left_own}
 use Rattle.epoch_core.proofs.EntrySteps.{leaving_at}
 use Rattle.epoch_core.proofs.SeatLemmas.{role_of, carries, after_exchange, after_leaves, room}
@@ -11,13 +11,13 @@ use Rattle.epoch_core.proofs.reader.Standing.leave.Goals as goal
 
 pub store-requires : goal.store-requires
 store-requires g c = let inv = c.self.invariant in let at = ap (λ t. t.shared.table_id) (sym c.deref.ensures) in
-    let moved = c.exchange.ensures in let out_all = after_exchange _ _ c.self.inside.place c.exchange.new.seat _ _ _ _ inv.reader moved.0 _ _ moved.3 in let out = out_all.0 in let at_index : c.from-reader.result ≡ c.self.inside.index = c.from-reader.ensures in
-    let near : c.from-reader.result < 64 = rw at_index inv.reader.number in (
+    let moved = c.exchange.ensures in let out_all = after_exchange _ _ c.self.inside.place c.exchange.new.seat _ _ _ _ inv.reader moved.0 _ _ moved.3 in let out = out_all.0 in
+    let near : c.self.inside.index < 64 = inv.reader.number in (
       out.reader.table ∙ at,
-      room _ _ _ _ inv.reader.sized at (1 + c.from-reader.result) (omega arith),
+      room _ _ _ _ inv.reader.sized at (announcement_word c.self.inside.index) (omega arith),
       leaving_at g.row.K (last_index g.row.K g.row.LIVE) inv.reader.sized.0.0.0 (at_key (λ q v c'. g.T.Lawful.is_lawful q v (arc_value c'))) (names_at_key g.T.Lawful.names) _ _ _ _ _ c.self.inside.index (own c.exchange.new.seat) _ c.self.inside.version c.self.inside.value _ (role_of _ _ _ _ _ _ _ out.reader)
-          (ap (λ o. o.phase) out.facts ∙ inv.holding) (carries _ _ _ _ _ _ _ out.reader ∙ ap (λ k. (k, Some c.self.inside.value) ∷ []) (c.slot_of.ensures ∙ ap (λ k. slot_of (c.self.inside.version % g.row.K) k) at_index))
-          (let P = λ (q : Option g.row.Q.Denot). at_key (λ q v c'. g.T.Lawful.is_lawful q v (arc_value c')) q c.self.inside.version c.self.inside.value in subst P (sym out.reader.keyed) inv.fair) (ap (λ k. 1 + k) at_index),
+          (ap (λ o. o.phase) out.facts ∙ inv.holding) (carries _ _ _ _ _ _ _ out.reader ∙ ap (λ k. (k, Some c.self.inside.value) ∷ []) c.slot_of.ensures)
+          (let P = λ (q : Option g.row.Q.Denot). at_key (λ q v c'. g.T.Lawful.is_lawful q v (arc_value c')) q c.self.inside.version c.self.inside.value in subst P (sym out.reader.keyed) inv.fair) refl,
     )
 
 pub invariant_of-result : goal.invariant_of-result

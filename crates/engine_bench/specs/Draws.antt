@@ -1,6 +1,0 @@
--- The generator of the routes and addresses.
-use Rattle.std.specs.Prelude.{ℕ, ◌+◌, ◌*◌, ◌%◌, ◌^◌}
-
--- the state behind a state
-abbrev pub next_state : ℕ → ℕ
-next_state x = (x * 6364136223846793005 + 1442695040888963407) % 2 ^ 64
