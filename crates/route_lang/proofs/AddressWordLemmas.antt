@@ -21,7 +21,7 @@ use Rattle.addr_text.proofs.AddressLemmas.{reads_back_ipv4, reads_back_ipv6, gro
 use Rattle.addr_text.proofs.NumberLemmas.{AreDigits, digits_model}
 use Rattle.addr_text.proofs.OctetLemmas.{bytes_high_first_fit}
 use Rattle.route_lang.specs.Text.{is_some_word}
-use Rattle.route_lang.specs.Verb.{begins_with_dash}
+use Rattle.route_lang.specs.Grammar.{begins_with_dash}
 use Rattle.route_lang.proofs.WordsLemmas.{is_solid, is_word}
 
 -- ---- bytes

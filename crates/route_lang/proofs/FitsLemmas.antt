@@ -10,7 +10,9 @@ use Rattle.route_lang.specs.Asked.{asked_of}
 use Rattle.route_lang.proofs.AskedLemmas.{IsAskedAt, asked_at}
 use Rattle.route_lang.proofs.CommandLemmas.{IsCommand}
 use Rattle.rib_store.specs.Plan.{Planned}
-use Rattle.route_lang.specs.Script.{Reading, is_quiet, shared_command, command_line, plans_behind, entries_of, with_front, then_lines, lines_from, no_plans}
+use Rattle.route_lang.specs.Reader.{shared_command, plans_behind, entries_of, with_front, then_lines, lines_from, no_plans}
+use Rattle.route_lang.specs.Script.{Reading, is_quiet, command_line}
+use Rattle.route_lang.specs.Asked.{shared_request}
 use Rattle.route_lang.specs.Fits.{Positions, behind, positions_behind, Rises, HasAt, FitsLine, Fits, HasCommands, is_algo, IsScript}
 use Rattle.route_lang.specs.declared.asked.Asked.{Asked}
 use Rattle.route_lang.specs.declared.asked.Asked.TheVariants.{Nothing, Inet, Inet6, Both, Get4, Get6}
@@ -53,9 +55,9 @@ module _ (plan : Planned 32) (plan6 : Planned 128) (at : Positions) (number : �
 
   both_fit : (pos pos6 : ℕ) (s : Shared) → pos ≡ at.inet → pos6 ≡ at.inet6 → slice_get plan.commands pos ≡ Some (shared_command s) → slice_get plan6.commands pos6 ≡ Some (shared_command s)
       → FitsLine plan plan6 at (command_line (is_quiet {w = 32} (shared_command s)) number (Some pos) (Some pos6))
-  both_fit pos pos6 shared.Flush e e6 found found6 = (e, e6, record { shared = shared.Flush; kind = refl; inet = found; inet6 = found6 })
-  both_fit pos pos6 (shared.Tick ms) e e6 found found6 = (e, e6, record { shared = shared.Tick ms; kind = refl; inet = found; inet6 = found6 })
-  both_fit pos pos6 shared.Sync e e6 found found6 = (e, e6, record { shared = shared.Sync; kind = refl; inet = found; inet6 = found6 })
+  both_fit pos pos6 shared.Flush e e6 found found6 = (e, e6, record { shared = shared_request shared.Flush; kind = refl; inet = found; inet6 = found6 })
+  both_fit pos pos6 (shared.Tick ms) e e6 found found6 = (e, e6, record { shared = shared_request (shared.Tick ms); kind = refl; inet = found; inet6 = found6 })
+  both_fit pos pos6 shared.Sync e e6 found found6 = (e, e6, record { shared = shared_request shared.Sync; kind = refl; inet = found; inet6 = found6 })
 
   then_fits : (quiet : Bool) (inet inet6 : Option ℕ) (lines : List Line) → FitsLine plan plan6 at (command_line quiet number inet inet6) → Fits plan plan6 (record { inet = behind at.inet inet; inet6 = behind at.inet6 inet6 }) lines → Fits plan plan6 at (command_line quiet number inet inet6 ∷ lines)
   then_fits true inet inet6 lines fits later = (fits, later)

@@ -5,9 +5,11 @@ use Rattle.prefix_width.specs.Prefix.{IsBlock}
 use Rattle.route_lang.specs.declared.asked.Asked.{Asked}
 use Rattle.route_lang.specs.declared.line.Line.{Line}
 use Rattle.route_lang.specs.declared.script.Plans.{Plans}
-use Rattle.route_lang.specs.Script.{Reading, plans_behind, entries_of, no_plans}
+use Rattle.route_lang.specs.Reader.{plans_behind, entries_of, no_plans}
+use Rattle.route_lang.specs.Script.{Reading}
 use Rattle.route_lang.specs.Fits.{IsScript}
-use Rattle.route_lang.specs.Generator.{next_state, state_after, draw, drawn_prefix, drawn_path, DrawnLine, drawn_line, led_by, generated_from, generated}
+use Rattle.route_lang.specs.Generator.{next_state, state_after, draw, drawn_prefix, drawn_path}
+use Rattle.route_lang.specs.ReaderDraws.{AskedDraw, asked_line, led_by, generated_from, script_drawn}
 use Rattle.route_lang.specs.Limits.{lines_limit}
 use Rattle.route_lang.proofs.BoundLemmas.{masked_fits}
 use Rattle.route_lang.proofs.SpellingLemmas.{IsPath}
@@ -35,7 +37,7 @@ draw_fits x = upper (next_state x) (mod-lt (x * 6364136223846793005 + 1442695040
 address_fits : (p : ℕ) → 167772160 + p % 16777216 < 2 ^ 32
 address_fits p = omega arith
 
-line_is_asked : (x : ℕ) → IsAsked (drawn_line x).asked
+line_is_asked : (x : ℕ) → IsAsked (asked_line x).asked
 line_is_asked x =
     let kind = draw 1 x % 16 in
     let prefix = prefix_fits (draw 2 x) (draw 3 x) in
@@ -43,7 +45,7 @@ line_is_asked x =
     choice (nat_lt kind 8) (kind == 8) (kind == 9) (kind == 10) _ _ _ _ _
     (prefix, path) (prefix, path) (prefix, tt) (lit< tt) (address_fits (draw 2 x), draw_fits (state_after 2 x))
   where
-    choice : (a b c d : Bool) (l m n o p : DrawnLine) → IsAsked l.asked → IsAsked m.asked → IsAsked n.asked → IsAsked o.asked → IsAsked p.asked → IsAsked (cond a l (cond b m (cond c n (cond d o p)))).asked
+    choice : (a b c d : Bool) (l m n o p : AskedDraw) → IsAsked l.asked → IsAsked m.asked → IsAsked n.asked → IsAsked o.asked → IsAsked p.asked → IsAsked (cond a l (cond b m (cond c n (cond d o p)))).asked
     choice true b c d l m n o p first second third fourth fifth = first
     choice false true c d l m n o p first second third fourth fifth = second
     choice false false true d l m n o p first second third fourth fifth = third
@@ -55,25 +57,25 @@ line_is_asked x =
 generated_follows : (n at : ℕ) (plans : Plans) (x : ℕ) → at + n ≤ lines_limit + 1 → Follows at plans (generated_from n at plans x)
 generated_follows zero at plans x few = none_follow at plans
 generated_follows (suc n) at plans x few =
-    let line = drawn_line x in
+    let line = asked_line x in
     let later = generated_follows n (at + 1) (plans_behind plans line.asked) (state_after line.draws x) (omega arith) in
     behind_line at plans line.asked (generated_from n (at + 1) (plans_behind plans line.asked) (state_after line.draws x)) (omega arith, line_is_asked x) later
 
 -- a generated script is one
-pub generated_is_script : (seed count : ℕ) → count ≤ lines_limit → IsScript (generated seed count)
-generated_is_script seed count few = follows_is_script (generated seed count) (generated_follows count 1 no_plans seed (omega arith))
+pub generated_is_script : (seed count : ℕ) → count ≤ lines_limit → IsScript (script_drawn seed count)
+generated_is_script seed count few = follows_is_script (script_drawn seed count) (generated_follows count 1 no_plans seed (omega arith))
 
 line_joins : (left at : ℕ) (plans : Plans) (front : List Line) (x : ℕ)
-    → led_by (front ++ entries_of at plans (drawn_line x).asked) (generated_from left (at + 1) (plans_behind plans (drawn_line x).asked) (state_after (drawn_line x).draws x))
+    → led_by (front ++ entries_of at plans (asked_line x).asked) (generated_from left (at + 1) (plans_behind plans (asked_line x).asked) (state_after (asked_line x).draws x))
     ≡ led_by front (generated_from (suc left) at plans x)
 line_joins left at plans front x =
-    let line = drawn_line x in
+    let line = asked_line x in
     let below = generated_from left (at + 1) (plans_behind plans line.asked) (state_after line.draws x) in
     ap (λ lines. record below { lines = lines }) (append_assoc front (entries_of at plans line.asked) below.lines)
 
 -- the lines so far with one more, before those that are left
 pub one_more_line : (count before : ℕ) (plans more_plans : Plans) (front more_front : List Line) (x y : ℕ) (asked : Asked) → before < count
-    → asked ≡ (drawn_line x).asked → y ≡ state_after (drawn_line x).draws x
+    → asked ≡ (asked_line x).asked → y ≡ state_after (asked_line x).draws x
     → more_plans ≡ plans_behind plans asked → more_front ≡ front ++ entries_of (before + 1) plans asked
     → led_by more_front (generated_from (count - (before + 1)) (before + 1 + 1) more_plans y) ≡ led_by front (generated_from (count - before) (before + 1) plans x)
 one_more_line count before plans more_plans front more_front x y asked left drawn state more joined =

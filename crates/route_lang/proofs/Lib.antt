@@ -1,9 +1,13 @@
 pub mod AddressWordLemmas
+pub mod AgreementLemmas
+pub mod AskedAgreementLemmas
 pub mod AskedLemmas
 pub mod BoundLemmas
 pub mod CommandLemmas
 pub mod FitsLemmas
 pub mod GeneratorLemmas
+pub mod GrammarLemmas
+pub mod LawLemmas
 pub mod LengthLemmas
 pub mod ReadBackLemmas
 pub mod ReadingLemmas

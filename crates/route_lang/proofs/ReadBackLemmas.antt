@@ -7,7 +7,9 @@ use Rattle.rib_store.specs.declared.command.Command.{Command}
 use Rattle.route_lang.specs.Text.{lines_of}
 use Rattle.route_lang.specs.Asked.{asked_of}
 use Rattle.rib_store.specs.Plan.{Planned}
-use Rattle.route_lang.specs.Script.{Reading, is_quiet, shared_command, command_line, plans_behind, entries_of, with_front, then_lines, lines_from, no_plans, script_of}
+use Rattle.route_lang.specs.Reader.{shared_command, plans_behind, entries_of, with_front, then_lines, lines_from, no_plans, script_read}
+use Rattle.route_lang.specs.Script.{Reading, is_quiet, command_line, script_of}
+use Rattle.route_lang.proofs.AgreementLemmas.{script_agrees}
 use Rattle.route_lang.specs.Spelling.{words_if, words_at, line_words, command_words, shared_words, joined, spelled_line, spelled, numbered, numbered_from, renumbered, ShownTextReadsBack}
 use Rattle.route_lang.proofs.AskedLemmas.{IsAskedAt, asked_at}
 use Rattle.route_lang.proofs.CommandLemmas.{IsAsked, asked_words, asks_same}
@@ -118,7 +120,7 @@ module _ (whole : Reading) where
       let later = λ (behind : Plans). lines_back (at + 1) behind texts in
       answer_back at plans (asked_of at text) (λ behind. lines_from (at + 1) behind texts) (asked_at at text) (λ behind more e. lines_follow (at + 1) behind texts more e) later
 
-  whole_back : (texts : List (List ℕ)) → lines_from 1 no_plans texts ≡ Ok whole → length (spelled whole) ≤ input_limit → script_of (spelled whole) ≡ Ok (renumbered whole)
+  whole_back : (texts : List (List ℕ)) → lines_from 1 no_plans texts ≡ Ok whole → length (spelled whole) ≤ input_limit → script_read (spelled whole) ≡ Ok (renumbered whole)
   whole_back texts e few =
       let r = subst (IfReadBack 1 no_plans) e (lines_back 1 no_plans texts) refl refl in
       let small : nat_lt input_limit (length (spelled whole)) ≡ false = too_many (length (spelled whole)) few in
@@ -128,8 +130,8 @@ module _ (whole : Reading) where
       too_many n few = grind (arith, nat_tests)
 
 pub shown_text_reads_back : ShownTextReadsBack
-shown_text_reads_back bytes script e few = small (nat_lt input_limit (length bytes)) e
+shown_text_reads_back bytes script e few = sym (script_agrees (spelled script)) ∙ small (nat_lt input_limit (length bytes)) (script_agrees bytes ∙ e)
   where
-    small : (large : Bool) → cond large (Err (record { line = 0; reason = TooLarge })) (lines_from 1 no_plans (lines_of bytes)) ≡ Ok script → script_of (spelled script) ≡ Ok (renumbered script)
+    small : (large : Bool) → cond large (Err (record { line = 0; reason = TooLarge })) (lines_from 1 no_plans (lines_of bytes)) ≡ Ok script → script_read (spelled script) ≡ Ok (renumbered script)
     small true e = cc
     small false e = whole_back script (lines_of bytes) e few

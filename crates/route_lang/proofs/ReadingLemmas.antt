@@ -1,5 +1,5 @@
 -- The reading of one line of a script.
-use Rattle.std.proofs.Common.{◌≡◌, ◌∙◌, ℕ, ◌+◌, ◌-◌, ◌≤◌, false, nat_lt, List, [], ◌∷◌, ◌++◌, Ok, Err, Result, length, refl, sym, ap, subst, arith, append_assoc, length-append}
+use Rattle.std.proofs.Common.{◌≡◌, ◌∙◌, ℕ, ◌+◌, ◌-◌, ◌≤◌, false, nat_lt, List, [], ◌∷◌, ◌++◌, Ok, Err, Result, length, refl, sym, ap, subst, arith, append_assoc, append-nil, length-append}
 use Rattle.std.specs.Prelude.{OnOk, IsErrAnd}
 use Rattle.std.proofs.lemmas.Bool.Decides.{nat_tests}
 use Rattle.rib_store.specs.declared.command.Command.{Command}
@@ -13,7 +13,8 @@ use Rattle.route_lang.specs.declared.fault.ScriptError.TheVariants as script_err
 use Rattle.route_lang.specs.declared.script.Plans.{Plans}
 use Rattle.route_lang.specs.Asked.{asked_of}
 use Rattle.route_lang.specs.Limits.{input_limit}
-use Rattle.route_lang.specs.Script.{Reading, plans_behind, entries_of, shared_command, with_front, lines_from, no_plans, script_of, GivesScript, TakesLine, RefusesLine, HasAtMost}
+use Rattle.route_lang.specs.Reader.{plans_behind, entries_of, shared_command, with_front, lines_from, no_plans, script_read, TakesLine, RefusesLine, HasAtMost}
+use Rattle.route_lang.specs.Script.{Reading, GivesScript}
 use Rattle.route_lang.specs.Text.{lines_of}
 
 front_joined : (xs ys : List Line) (below : Result Reading LineFault) → with_front (xs ++ ys) below ≡ with_front xs (with_front ys below)
@@ -41,14 +42,22 @@ room_behind n plans (Get6 addr flow) some few = (omega (arith, few.0), omega (ar
 -- the fault of a line behind these is that of the whole
 pub gives_fault : (bytes : List ℕ) (r : Result Reading ScriptError) (error : ScriptError) (number : ℕ) (plans : Plans) (front : List Line) (text : List ℕ) (rest below : List (List ℕ)) → IsErrAnd r (λ e. e ≡ error) → length bytes ≤ input_limit
     → rest ≡ text ∷ below → with_front front (lines_from number plans rest) ≡ lines_from 1 no_plans (lines_of bytes)
-    → ((fault : LineFault) → error ≡ script_error.Fault fault → RefusesLine number text plans fault) → GivesScript r (script_of bytes)
+    → ((fault : LineFault) → error ≡ script_error.Fault fault → RefusesLine number text plans fault) → GivesScript r (script_read bytes)
 gives_fault bytes (Ok script) error number plans front text rest below is few next whole refuses = absurd is
 gives_fault bytes (Err e) error number plans front text rest below is few next whole refuses =
-    subst (λ (told : ScriptError). GivesScript (Err told) (script_of bytes)) (sym is) (by_error error refuses)
+    subst (λ (told : ScriptError). GivesScript (Err told) (script_read bytes)) (sym is) (by_error error refuses)
   where
-    by_error : (told : ScriptError) → ((fault : LineFault) → told ≡ script_error.Fault fault → RefusesLine number text plans fault) → GivesScript (Err told) (script_of bytes)
+    by_error : (told : ScriptError) → ((fault : LineFault) → told ≡ script_error.Fault fault → RefusesLine number text plans fault) → GivesScript (Err told) (script_read bytes)
     by_error (script_error.Fault fault) refused =
         let inside : nat_lt input_limit (length bytes) ≡ false = grind (arith, nat_tests) in
         let stops = ap (λ texts. with_front front (lines_from number plans texts)) next ∙ ap (with_front front) (refused fault refl below) in
         rw inside (sym whole ∙ stops)
     by_error script_error.OutOfMemory refused = tt
+
+-- where no line is left, what was read is the script
+pub gives_script : (bytes : List ℕ) (number : ℕ) (plans : Plans) (front : List Line) (rest : List (List ℕ)) (script : Reading) → length bytes ≤ input_limit → rest ≡ []
+    → with_front front (lines_from number plans rest) ≡ lines_from 1 no_plans (lines_of bytes) → script ≡ record { inet = plans.inet; inet6 = plans.inet6; lines = front } → script_read bytes ≡ Ok script
+gives_script bytes number plans front rest script few ended whole is =
+    let inside : nat_lt input_limit (length bytes) ≡ false = grind (arith, nat_tests) in
+    let read : List Line → Result Reading LineFault = λ lines. Ok (record { inet = plans.inet; inet6 = plans.inet6; lines = lines }) in
+    rw inside (sym whole ∙ ap (λ texts. with_front front (lines_from number plans texts)) ended ∙ ap read (append-nil front) ∙ ap Ok (sym is))

@@ -1,5 +1,5 @@
 -- No line is refused as too large: that is said of the whole input alone.
-use Rattle.std.proofs.Common.{◌≡◌, ℕ, ◌+◌, ◌<◌, ◌≤◌, Bool, true, false, List, [], ◌∷◌, Option, Some, None, Result, Ok, Err, cond, length, nat_lt, ltb-true, ltb-false, refl, subst, arith}
+use Rattle.std.proofs.Common.{◌≡◌, ◌∙◌, ℕ, ◌+◌, ◌<◌, ◌≤◌, Bool, true, false, List, [], ◌∷◌, Option, Some, None, Result, Ok, Err, cond, length, nat_lt, ltb-true, ltb-false, refl, subst, arith}
 use Rattle.rib_store.specs.declared.command.Command.{Command}
 use Rattle.route_lang.specs.declared.asked.Asked.{Asked}
 use Rattle.std.specs.Prelude.{IsErrOf}
@@ -17,11 +17,15 @@ use Rattle.route_lang.specs.declared.verb.Flag.{Flag}
 use Rattle.route_lang.specs.declared.verb.Flag.TheVariants as flag
 use Rattle.route_lang.specs.declared.verb.Token.{Token}
 use Rattle.route_lang.specs.declared.verb.Token.TheVariants.{Bare, Plain, Valued}
-use Rattle.route_lang.specs.Walk.{Met, with_flag, with_value, with_parsed, without_value, with_bare, put_bare, at_end, along, walk_from, ◌>>=◌}
+use Rattle.route_lang.specs.Walk.{Met, with_flag, with_value, with_parsed, without_value, with_bare, put_bare, at_end, along, walk_from}
+use Rattle.route_lang.specs.Grammar.{◌>>=◌}
 use Rattle.addr_text.specs.PrefixText.{block_of}
 use Rattle.route_lang.specs.Verb.{token_of, bare_words}
-use Rattle.route_lang.specs.Asked.{or_reason, destination_of, agreeing, agrees, gateway_of, gateway_by, address_asked, leading, path_by, path_of, path_asked, add_of, change_of, delete_of, setting_asked, algo_of, tick_of, get_of, in_family, flush_of, asked_by, by_verb, by_command, by_words, asked_of, from_command}
-use Rattle.route_lang.specs.Script.{Reading, GivesScript, input_too_large, then_lines, with_front, lines_from, no_plans, script_of, plans_behind, entries_of}
+use Rattle.route_lang.specs.Asked.{destination_of, agreeing, agrees, gateway_of, address_asked, path_by, path_of, path_asked, add_of, change_of, delete_of, setting_asked, algo_of, tick_of, get_of, in_family, flush_of, asked_by, by_verb, by_command, by_words, asked_of}
+use Rattle.route_lang.specs.Grammar.{or_reason, gateway_by, leading, from_command}
+use Rattle.route_lang.specs.Reader.{then_lines, with_front, lines_from, no_plans, plans_behind, entries_of}
+use Rattle.route_lang.specs.Script.{Reading, GivesScript, input_too_large, script_of}
+use Rattle.route_lang.proofs.AgreementLemmas.{script_agrees}
 
 -- a reason for which a line may be refused
 abbrev pub IsOfLine : Reason → Type 0
@@ -202,7 +206,7 @@ fault_of_line at plans (text ∷ lines) =
 
 -- bytes within the limit are refused for a reason of their line
 pub reason_of_line : (bytes : List ℕ) (fault : LineFault) → length bytes ≤ input_limit → script_of bytes ≡ Err fault → IsOfLine fault.reason
-reason_of_line bytes fault few e = by_length (nat_lt input_limit (length bytes)) refl e
+reason_of_line bytes fault few e = by_length (nat_lt input_limit (length bytes)) refl (script_agrees bytes ∙ e)
   where
     by_length : (large : Bool) → nat_lt input_limit (length bytes) ≡ large → cond large (Err (record { line = 0; reason = reason.TooLarge })) (lines_from 1 no_plans (lines_of bytes)) ≡ Err fault → IsOfLine fault.reason
     by_length true large e = let past : input_limit < length bytes = ltb-true input_limit (length bytes) large in absurd (omega arith)

@@ -5,7 +5,7 @@ use Rattle.std.proofs.lemmas.Bool.{and_parts}
 use Rattle.std.proofs.lemmas.Bool.Decides.{nat_tests}
 use Rattle.std.proofs.lemmas.List.Folds.{list_all-append}
 use Rattle.route_lang.specs.Text.{is_feed, is_blank, is_some_word, lines_of, words_of}
-use Rattle.route_lang.specs.Asked.{is_taken}
+use Rattle.route_lang.specs.Grammar.{is_taken}
 use Rattle.route_lang.specs.Spelling.{spaced, joined}
 
 -- a byte of a word

@@ -1,43 +1,39 @@
--- What a line asks for: the commands that its words make, or the first reason against it.
-use Rattle.std.specs.Prelude.{◌≡◌, ℕ, ◌==◌, ◌||◌, ◌&&◌, not, Bool, true, false, nat_lt, nat_le, List, [], ◌∷◌, length, Option, Some, None, option_map, Result, Ok, Err, slice_index, bytes_eq, codes, if◌then◌else◌}
-use Rattle.std.specs.List.{list_any, list_all}
+-- How the reader makes of what it has met what a line asks for. No public clause cites this; that it agrees with the grammar
+-- is proved.
+use Rattle.std.specs.Prelude.{◌≡◌, ℕ, ◌==◌, not, Bool, true, false, nat_lt, List, [], ◌∷◌, length, Option, Some, None, Result, Ok, Err, if◌then◌else◌}
+use Rattle.std.specs.List.{list_all}
 use Rattle.prefix_width.specs.Prefix.{Block}
 use Rattle.prefix_width.specs.Path.{WeightedHop}
-use Rattle.prefix_width.specs.declared.nexthop.NhKind.{NhKind}
 use Rattle.prefix_width.specs.declared.nexthop.NhKind.TheVariants as kind
-use Rattle.prefix_width.specs.declared.module.Kind.TheVariants.{Scan, Range, Radix, Dxr}
+use Rattle.prefix_width.specs.declared.module.Kind.TheVariants.{Dxr}
 use Rattle.prefix_width.specs.declared.module.Setting.{Setting}
-use Rattle.prefix_width.specs.declared.module.Setting.TheVariants.{Auto, Fixed}
+use Rattle.prefix_width.specs.declared.module.Setting.TheVariants.{Fixed}
 use Rattle.addr_text.specs.Address.{address_of}
 use Rattle.addr_text.specs.Number.{number_of}
-use Rattle.addr_text.specs.PrefixText.{block_of, is_slash}
+use Rattle.addr_text.specs.PrefixText.{block_of}
 use Rattle.rib_store.specs.declared.command.Command.{Command}
 use Rattle.rib_store.specs.declared.command.Command.TheVariants as command
 use Rattle.rib_store.specs.Plan.{IsWrongModule}
 use Rattle.route_lang.specs.declared.fault.Reason.{Reason}
-use Rattle.route_lang.specs.declared.fault.Reason.TheVariants.{TooManyLines, LineTooLong, BadByte, UnknownCommand, MissingWord, BadNumber, BadAddress, BadLength, NoTarget, NoModule}
+use Rattle.route_lang.specs.declared.fault.Reason.TheVariants.{TooManyLines, LineTooLong, BadByte, UnknownCommand, MissingWord, BadNumber, BadAddress, BadLength, NoModule}
 use Rattle.route_lang.specs.declared.verb.Verb.{Verb}
 use Rattle.route_lang.specs.declared.verb.Verb.TheVariants as verb
 use Rattle.route_lang.specs.declared.verb.Flag.{Flag}
 use Rattle.route_lang.specs.declared.verb.Flag.TheVariants as flag
 use Rattle.route_lang.specs.declared.asked.Asked.{Asked}
 use Rattle.route_lang.specs.declared.asked.Asked.TheVariants.{Nothing, Inet, Inet6, Both, Get4, Get6}
+use Rattle.route_lang.specs.declared.asked.Shared.{Shared}
 use Rattle.route_lang.specs.declared.asked.Shared.TheVariants as shared
+use Rattle.route_lang.specs.Grammar.{or_reason, is_alone, gateway_by, value_or, dropping, leading, setting_of, is_taken, is_comment, from_command}
 use Rattle.route_lang.specs.Limits.{lines_limit, line_limit}
-use Rattle.route_lang.specs.Text.{is_blank, words_of}
+use Rattle.route_lang.specs.Request.{Request, OfInet, OfInet6, OfBoth, LookUp, LookUp6}
+use Rattle.route_lang.specs.Request as request
+use Rattle.route_lang.specs.Text.{words_of}
 use Rattle.route_lang.specs.Verb.{verb_of}
-use Rattle.route_lang.specs.Walk.{Met, nothing_met, walk_from, ◌>>=◌}
+use Rattle.route_lang.specs.Walk.{Met, nothing_met, walk_from}
+use Rattle.route_lang.specs.Grammar.{◌>>=◌}
 
 -- ---- words after the walk
-
--- the word, or the reason why it is refused
-abbrev pub or_reason : {A : Type 0} → Reason → Option A → Result A Reason
-or_reason reason None = Err reason
-or_reason reason (Some x) = Ok x
-
--- whether a destination is an address alone
-abbrev pub is_alone : List ℕ → Bool
-is_alone word = not (bytes_eq word (codes "default") || list_any is_slash word)
 
 -- whether `-net` or `-host` agrees with the destination that a word writes
 abbrev pub agrees : ℕ → Option Flag → List ℕ → Block → Bool
@@ -53,10 +49,6 @@ abbrev pub destination_of : ℕ → Met → Result Block Reason
 destination_of w met =
     or_reason MissingWord met.first >>= (λ word. or_reason BadAddress (block_of w word) >>= agreeing w met.extent word)
 
-abbrev pub gateway_by : ℕ → Option (List ℕ) → Result (Option ℕ) Reason
-gateway_by w None = Ok None
-gateway_by w (Some word) = or_reason BadAddress (option_map Some (address_of w word))
-
 -- the gateway, where there is one
 abbrev pub gateway_of : ℕ → Met → Result (Option ℕ) Reason
 gateway_of w met = gateway_by w met.second
@@ -66,23 +58,6 @@ abbrev pub address_asked : ℕ → Met → Result ℕ Reason
 address_asked w met = or_reason MissingWord met.first >>= (λ word. or_reason BadAddress (address_of w word))
 
 -- ---- the path of an `add` or a `change`
-
--- a value, or what it is where it isn't given
-abbrev pub value_or : ℕ → Option ℕ → ℕ
-value_or absent None = absent
-value_or absent (Some n) = n
-
--- a path that drops packets
-abbrev pub dropping : NhKind → WeightedHop
-dropping k = record { nexthop = record { kind = k; gateway = 0; iface = 0; mtu = 0 }; weight = 1 }
-
--- a path to a gateway or, without one, to the destination itself on an interface
-abbrev pub leading : Option ℕ → Option ℕ → ℕ → ℕ → Result WeightedHop Reason
-leading (Some gateway) iface mtu weight =
-    Ok (record { nexthop = record { kind = kind.Via; gateway = gateway; iface = value_or 0 iface; mtu = mtu }; weight = weight })
-leading None (Some iface) mtu weight =
-    Ok (record { nexthop = record { kind = kind.Direct; gateway = 0; iface = iface; mtu = mtu }; weight = weight })
-leading None None mtu weight = Err NoTarget
 
 abbrev pub path_by : Option Flag → Met → Option ℕ → Result WeightedHop Reason
 path_by (Some flag.Blackhole) met gateway = Ok (dropping kind.Blackhole)
@@ -107,16 +82,6 @@ change_of w met = destination_of w met >>= (λ b. path_asked w met >>= (λ p. Ok
 
 abbrev pub delete_of : (w : ℕ) → Met → Result (Command w) Reason
 delete_of w met = destination_of w met >>= (λ b. gateway_of w met >>= (λ g. Ok (command.Delete b g)))
-
--- the module that a word names; dxr is for 32 bits alone
-abbrev pub setting_of : ℕ → List ℕ → Option Setting
-setting_of w word =
-    if bytes_eq word (codes "auto") then Some Auto
-    else if bytes_eq word (codes "scan") then Some (Fixed Scan)
-    else if bytes_eq word (codes "range") then Some (Fixed Range)
-    else if bytes_eq word (codes "radix") then Some (Fixed Radix)
-    else if bytes_eq word (codes "dxr") && w == 32 then Some (Fixed Dxr)
-    else None
 
 abbrev pub setting_asked : ℕ → Met → Result Setting Reason
 setting_asked w met = or_reason MissingWord met.first >>= (λ word. or_reason NoModule (setting_of w word))
@@ -172,27 +137,6 @@ HasOwnModule asked = Unit {0}
 
 -- ---- the line
 
--- a byte of a line that is no comment
-abbrev pub is_taken : ℕ → Bool
-is_taken byte = is_blank byte || (nat_le 33 byte && nat_le byte 126)
-
--- whether a line with this first word is a comment
-abbrev pub is_comment : List ℕ → Bool
-is_comment word = slice_index word 0 == 35
-
--- `-n` and `-q`, which route(8) takes before its command
-abbrev pub is_ignored : List ℕ → Bool
-is_ignored word = bytes_eq word (codes "-n") || bytes_eq word (codes "-q")
-
-abbrev pub behind_ignored : List (List ℕ) → List (List ℕ)
-behind_ignored [] = []
-behind_ignored (word ∷ words) = if is_ignored word then behind_ignored words else word ∷ words
-
--- the words from the command word on: a first word `route` is skipped, and what is ignored behind it
-abbrev pub from_command : List (List ℕ) → List (List ℕ)
-from_command [] = []
-from_command (word ∷ words) = if bytes_eq word (codes "route") then behind_ignored words else word ∷ words
-
 abbrev pub by_verb : Option Verb → List (List ℕ) → Result Asked Reason
 by_verb None words = Err UnknownCommand
 by_verb (Some verb) words = walk_from verb nothing_met words >>= asked_by verb
@@ -214,3 +158,22 @@ asked_of at line =
     if nat_lt lines_limit at then Err TooManyLines
     else if nat_lt line_limit (length line) then Err LineTooLong
     else by_words line (words_of line)
+
+-- ---- as a request
+
+abbrev pub shared_request : Shared → request.Shared
+shared_request shared.Flush = request.Flush
+shared_request (shared.Tick ms) = request.Tick ms
+shared_request shared.Sync = request.Sync
+
+abbrev pub request_by : Asked → Option Request
+request_by Nothing = None
+request_by (Inet c) = Some (OfInet c)
+request_by (Inet6 c) = Some (OfInet6 c)
+request_by (Both s) = Some (OfBoth (shared_request s))
+request_by (Get4 a flow) = Some (LookUp a flow)
+request_by (Get6 a flow) = Some (LookUp6 a flow)
+
+abbrev pub requested : Result Asked Reason → Result (Option Request) Reason
+requested (Ok asked) = Ok (request_by asked)
+requested (Err reason) = Err reason

@@ -3,8 +3,8 @@ use Rattle.std.specs.Prelude.{◌≡◌, ℕ, ◌+◌, ◌<◌, ◌≤◌, Bool,
 use Rattle.rib_store.specs.declared.command.Command.{Command}
 use Rattle.rib_store.specs.declared.command.Command.TheVariants as command
 use Rattle.rib_store.specs.Plan.{Planned}
-use Rattle.route_lang.specs.Script.{Reading, is_quiet, shared_command}
-use Rattle.route_lang.specs.declared.asked.Shared.{Shared}
+use Rattle.route_lang.specs.Request.{Shared, command_of}
+use Rattle.route_lang.specs.Script.{Reading, is_quiet}
 use Rattle.route_lang.specs.declared.line.Line.{Line}
 use Rattle.route_lang.specs.declared.line.Line.TheVariants.{Change, Quiet, Get4, Get6}
 use Rattle.route_lang.specs.Limits.{lines_limit}
@@ -58,9 +58,9 @@ HasAt plan pos test = MatchOption (slice_get plan.commands pos) ⊥ (λ c. test 
 -- the commands of two positions are one that both families get: quiet, or a flush
 pub record IsShared (plan : Planned 32) (plan6 : Planned 128) (pos pos6 : ℕ) (quiet : Bool) : Type 0 where
   pub shared : Shared
-  pub kind : is_quiet {w = 32} (shared_command shared) ≡ quiet
-  pub inet : slice_get plan.commands pos ≡ Some (shared_command shared)
-  pub inet6 : slice_get plan6.commands pos6 ≡ Some (shared_command shared)
+  pub kind : is_quiet {w = 32} (command_of shared) ≡ quiet
+  pub inet : slice_get plan.commands pos ≡ Some (command_of shared)
+  pub inet6 : slice_get plan6.commands pos6 ≡ Some (command_of shared)
 
 -- a line behind so many commands of the plans has their next ones, of its kind; a get stands where it says
 abbrev pub FitsLine : Planned 32 → Planned 128 → Positions → Line → Type 0

@@ -2,7 +2,12 @@ pub mod Asked
 pub mod Fault
 pub mod Fits
 pub mod Generator
+pub mod Grammar
+pub mod Laws
 pub mod Limits
+pub mod Reader
+pub mod ReaderDraws
+pub mod Request
 pub mod Script
 pub mod Spelling
 pub mod Text

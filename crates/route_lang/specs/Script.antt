@@ -1,15 +1,14 @@
 -- Script grammar: a text is the plans of both families and the lines that speak of them, or its first faulty line
 -- with the first reason against it.
-use Rattle.std.specs.Prelude.{◌≡◌, ◌≤◌, ℕ, ◌+◌, Bool, true, false, nat_lt, List, [], ◌∷◌, ◌++◌, length, Option, Some, None, Result, Ok, Err, if◌then◌else◌}
+use Rattle.std.specs.Prelude.{◌≡◌, ℕ, Bool, true, false, nat_lt, List, [], ◌∷◌, ◌++◌, length, slice_get, Option, Some, None, Result, Ok, Err, if◌then◌else◌}
+use Rattle.std.specs.List.{enumerate_from, filter_map, flat_map}
 use Rattle.rib_store.specs.declared.command.Command.{Command}
 use Rattle.rib_store.specs.declared.command.Command.TheVariants as command
-use Rattle.rib_store.specs.Plan.{Planned, plan_with}
+use Rattle.rib_store.specs.Plan.{Planned}
+use Rattle.route_lang.specs.Limits.{input_limit}
+use Rattle.route_lang.specs.Request.{Request, OfInet, OfInet6, OfBoth, LookUp, LookUp6, command_of}
+use Rattle.route_lang.specs.Grammar.{asked_for}
 use Rattle.route_lang.specs.Text.{lines_of}
-use Rattle.route_lang.specs.Asked.{asked_of}
-use Rattle.route_lang.specs.declared.asked.Asked.{Asked}
-use Rattle.route_lang.specs.declared.asked.Asked.TheVariants.{Nothing, Inet, Inet6, Both, Get4, Get6}
-use Rattle.route_lang.specs.declared.asked.Shared.{Shared}
-use Rattle.route_lang.specs.declared.asked.Shared.TheVariants as shared
 use Rattle.route_lang.specs.declared.line.Line.{Line}
 use Rattle.route_lang.specs.declared.line.Line.TheVariants as line
 use Rattle.route_lang.specs.declared.fault.LineFault.{LineFault}
@@ -17,8 +16,6 @@ use Rattle.route_lang.specs.declared.fault.Reason.{Reason}
 use Rattle.route_lang.specs.declared.fault.Reason.TheVariants.{TooLarge}
 use Rattle.route_lang.specs.declared.fault.ScriptError.{ScriptError}
 use Rattle.route_lang.specs.declared.fault.ScriptError.TheVariants as script_error
-use Rattle.route_lang.specs.declared.script.Plans.{Plans}
-use Rattle.route_lang.specs.Limits.{input_limit}
 
 -- what a script is seen as: the plan of each family, and the lines in their order
 pub record Reading : Type 0 where
@@ -26,22 +23,27 @@ pub record Reading : Type 0 where
   pub inet6 : Planned 128
   pub lines : List Line
 
--- ---- what a line adds
+-- ---- the plans
 
--- the command of a family that both families get
-abbrev pub shared_command : {w : ℕ} → Shared → Command w
-shared_command shared.Flush = command.Flush
-shared_command (shared.Tick ms) = command.Tick ms
-shared_command shared.Sync = command.Sync
+-- the commands that a request has for a family
+abbrev pub inet_commands : Request → List (Command 32)
+inet_commands (OfInet c) = c ∷ []
+inet_commands (OfBoth s) = command_of s ∷ []
+inet_commands request = []
 
--- the plans with what a line asks for behind them
-abbrev pub plans_behind : Plans → Asked → Plans
-plans_behind plans Nothing = plans
-plans_behind plans (Inet c) = record plans { inet = plan_with plans.inet c }
-plans_behind plans (Inet6 c) = record plans { inet6 = plan_with plans.inet6 c }
-plans_behind plans (Both s) = record plans { inet = plan_with plans.inet (shared_command s); inet6 = plan_with plans.inet6 (shared_command s) }
-plans_behind plans (Get4 addr flow) = plans
-plans_behind plans (Get6 addr flow) = plans
+abbrev pub inet6_commands : Request → List (Command 128)
+inet6_commands (OfInet6 c) = c ∷ []
+inet6_commands (OfBoth s) = command_of s ∷ []
+inet6_commands request = []
+
+-- a family's plan is what lines with these numbers and requests ask of it, in order
+abbrev pub inet_plan : List (ℕ × Request) → Planned 32
+inet_plan asked = record { commands = flat_map (λ here. inet_commands here.1) asked }
+
+abbrev pub inet6_plan : List (ℕ × Request) → Planned 128
+inet6_plan asked = record { commands = flat_map (λ here. inet6_commands here.1) asked }
+
+-- ---- the lines
 
 -- a command that asks nothing of the table
 abbrev pub is_quiet : {w : ℕ} → Command w → Bool
@@ -52,64 +54,68 @@ is_quiet c = false
 
 -- the line of a command that stands at these positions of the plans
 abbrev pub command_line : Bool → ℕ → Option ℕ → Option ℕ → Line
-command_line quiet at inet inet6 = if quiet then line.Quiet at inet inet6 else line.Change at inet inet6
+command_line quiet number inet inet6 = if quiet then line.Quiet number inet inet6 else line.Change number inet inet6
 
--- what a line puts behind the lines, where these plans stand before it
-abbrev pub entries_of : ℕ → Plans → Asked → List Line
-entries_of at plans Nothing = []
-entries_of at plans (Inet c) = command_line (is_quiet c) at (Some (length plans.inet.commands)) None ∷ []
-entries_of at plans (Inet6 c) = command_line (is_quiet c) at None (Some (length plans.inet6.commands)) ∷ []
-entries_of at plans (Both s) = command_line (is_quiet {w = 32} (shared_command s)) at (Some (length plans.inet.commands)) (Some (length plans.inet6.commands)) ∷ []
-entries_of at plans (Get4 addr flow) = line.Get4 at addr flow (length plans.inet.commands) ∷ []
-entries_of at plans (Get6 addr flow) = line.Get6 at addr flow (length plans.inet6.commands) ∷ []
+-- the line of a number and a request, where so many commands of each family come before it
+abbrev pub line_at : ℕ → ℕ → ℕ → Request → Line
+line_at before before6 number (OfInet c) = command_line (is_quiet c) number (Some before) None
+line_at before before6 number (OfInet6 c) = command_line (is_quiet c) number None (Some before6)
+line_at before before6 number (OfBoth s) = command_line (is_quiet {w = 32} (command_of s)) number (Some before) (Some before6)
+line_at before before6 number (LookUp addr flow) = line.Get4 number addr flow before
+line_at before before6 number (LookUp6 addr flow) = line.Get6 number addr flow before6
 
--- ---- lines in turn
+-- the line behind these: its positions are the numbers of each family's commands in the earlier lines
+abbrev pub line_behind : List (ℕ × Request) → ℕ × Request → Line
+line_behind earlier here = line_at (length (inet_plan earlier).commands) (length (inet6_plan earlier).commands) here.0 here.1
 
--- these lines before those below
-abbrev pub with_front : List Line → Result Reading LineFault → Result Reading LineFault
-with_front front (Ok below) = Ok (record below { lines = front ++ below.lines })
-with_front front (Err fault) = Err fault
+-- the lines of a list that comes behind these
+abbrev pub lines_behind : List (ℕ × Request) → List (ℕ × Request) → List Line
+lines_behind earlier [] = []
+lines_behind earlier (here ∷ later) = line_behind earlier here ∷ lines_behind (earlier ++ here ∷ []) later
 
--- what the lines below a line are, given what they are behind the plans that it leaves
-abbrev pub then_lines : ℕ → Plans → Result Asked Reason → (Plans → Result Reading LineFault) → Result Reading LineFault
-then_lines at plans (Err reason) below = Err (record { line = at; reason = reason })
-then_lines at plans (Ok asked) below = with_front (entries_of at plans asked) (below (plans_behind plans asked))
+-- the script that lines with these numbers and requests make
+abbrev pub made_of : List (ℕ × Request) → Reading
+made_of asked = record { inet = inet_plan asked; inet6 = inet6_plan asked; lines = lines_behind [] asked }
 
--- the lines from number `at` on, behind these plans
-abbrev pub lines_from : ℕ → Plans → List (List ℕ) → Result Reading LineFault
-lines_from at plans [] = Ok (record { inet = plans.inet; inet6 = plans.inet6; lines = [] })
-lines_from at plans (text ∷ lines) = then_lines at plans (asked_of at text) (λ behind. lines_from (at + 1) behind lines)
+-- ---- a text
 
-abbrev pub no_plans : Plans
-no_plans = record { inet = record { commands = [] }; inet6 = record { commands = [] } }
+-- the fault of a line that is refused
+abbrev pub fault_at : ℕ → Result (Option Request) Reason → Option LineFault
+fault_at number (Ok asked) = None
+fault_at number (Err reason) = Some (record { line = number; reason = reason })
+
+-- the request of a line that has one
+abbrev pub request_at : ℕ → Result (Option Request) Reason → Option (ℕ × Request)
+request_at number (Ok (Some request)) = Some (number, request)
+request_at number asked = None
+
+abbrev pub fault_of : ℕ × List ℕ → Option LineFault
+fault_of here = fault_at here.0 (asked_for here.0 here.1)
+
+abbrev pub request_of : ℕ × List ℕ → Option (ℕ × Request)
+request_of here = request_at here.0 (asked_for here.0 here.1)
+
+-- a fault, where there is one, in the place of a script
+abbrev pub unless_faulty : Option LineFault → Reading → Result Reading LineFault
+unless_faulty None script = Ok script
+unless_faulty (Some fault) script = Err fault
+
+-- the script of lines with these numbers: the fault of the first that is faulty, else what all ask for
+abbrev pub script_from : List (ℕ × List ℕ) → Result Reading LineFault
+script_from lines = unless_faulty (slice_get (filter_map fault_of lines) 0) (made_of (filter_map request_of lines))
 
 -- the fault of bytes that are too many
 abbrev pub input_too_large : LineFault
 input_too_large = record { line = 0; reason = TooLarge }
 
--- the script of these bytes, or its first line that is refused
+-- the script of these bytes, whose lines are numbered from 1, or its first line that is refused
 abbrev pub script_of : List ℕ → Result Reading LineFault
 script_of bytes =
     if nat_lt input_limit (length bytes) then Err input_too_large
-    else lines_from 1 no_plans (lines_of bytes)
+    else script_from (enumerate_from 1 (lines_of bytes))
 
 -- what a reader answers is what the definition says, unless memory is wanting
 abbrev pub GivesScript : Result Reading ScriptError → Result Reading LineFault → Type 0
 GivesScript (Ok script) reading = reading ≡ Ok script
 GivesScript (Err (script_error.Fault fault)) reading = reading ≡ Err fault
 GivesScript (Err script_error.OutOfMemory) reading = Unit {0}
-
--- ---- one line of the reading
-
--- a line is taken in: the reading of it and any lines below goes on behind what was read
-abbrev pub TakesLine : ℕ → List ℕ → Plans → List Line → Plans → List Line → Type 0
-TakesLine at text plans front more_plans more_front =
-    (below : List (List ℕ)) → with_front more_front (lines_from (at + 1) more_plans below) ≡ with_front front (lines_from at plans (text ∷ below))
-
--- a line is refused, whatever lines are below
-abbrev pub RefusesLine : ℕ → List ℕ → Plans → LineFault → Type 0
-RefusesLine at text plans fault = (below : List (List ℕ)) → lines_from at plans (text ∷ below) ≡ Err fault
-
--- no more commands in either plan than this
-abbrev pub HasAtMost : ℕ → Plans → Type 0
-HasAtMost n plans = (length plans.inet.commands ≤ n) × (length plans.inet6.commands ≤ n)

@@ -1,6 +1,7 @@
--- The commands of a script line and the options that each has.
-use Rattle.std.specs.Prelude.{ℕ, ◌==◌, ◌&&◌, ◌||◌, not, nat_le, Bool, true, false, List, Option, Some, None, option_and_then, slice_index, bytes_eq, codes, if◌then◌else◌}
+-- The reader's commands and options. No public clause cites them; that they agree with the grammar's tables is proved.
+use Rattle.std.specs.Prelude.{ℕ, ◌&&◌, ◌||◌, not, nat_le, Bool, true, false, List, Option, Some, None, option_and_then, bytes_eq, codes, if◌then◌else◌}
 use Rattle.addr_text.specs.Number.{number_of}
+use Rattle.route_lang.specs.Grammar.{begins_with_dash}
 use Rattle.route_lang.specs.declared.verb.Verb.{Verb}
 use Rattle.route_lang.specs.declared.verb.Verb.TheVariants as verb
 use Rattle.route_lang.specs.declared.verb.Flag.{Flag}
@@ -81,9 +82,6 @@ bare_words verb.Flush = 0
 bare_words verb.Tick = 1
 bare_words verb.Sync = 0
 bare_words verb.Algo = 1
-
-abbrev pub begins_with_dash : List ℕ → Bool
-begins_with_dash word = slice_index word 0 == 45
 
 -- a word that begins with `-` is an option, and so is `flow` in a get
 abbrev pub is_option : Verb → List ℕ → Bool

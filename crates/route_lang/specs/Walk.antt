@@ -1,4 +1,5 @@
--- The walk over the words behind a command, from left to right: the first word that is faulty decides.
+-- How the reader walks over the words behind a command, from left to right: the first word that is faulty decides. No public
+-- clause cites this; that it agrees with the grammar is proved.
 use Rattle.std.specs.Prelude.{◌≡◌, ◌≤◌, IfSome, ℕ, Bool, nat_le, List, [], ◌∷◌, Option, Some, None, Result, Ok, Err, is_some, option_map, if◌then◌else◌}
 use Rattle.route_lang.specs.declared.fault.Reason.{Reason}
 use Rattle.route_lang.specs.declared.fault.Reason.TheVariants.{UnknownOption, Repeated, MissingWord, BadNumber, ExtraWord}
@@ -8,6 +9,7 @@ use Rattle.route_lang.specs.declared.verb.Flag.TheVariants.{Inet, Inet6, Net, Ho
 use Rattle.route_lang.specs.declared.verb.Token.{Token}
 use Rattle.route_lang.specs.declared.verb.Token.TheVariants.{Bare, Plain, Valued}
 use Rattle.route_lang.specs.declared.walk.Walk.{Walk}
+use Rattle.route_lang.specs.Grammar.{◌>>=◌}
 use Rattle.route_lang.specs.Verb.{bare_words, token_of, value_of}
 
 -- what was met so far: bare words, the options given, and the values of options
@@ -108,11 +110,6 @@ abbrev pub with_bare : Verb → Met → List ℕ → Result Met Reason
 with_bare verb met word = put_bare (bare_words verb) met word met.first met.second
 
 -- ---- the walk
-
-infixl 10 ◌>>=◌
-abbrev pub ◌>>=◌ : {A B : Type 0} → Result A Reason → (A → Result B Reason) → Result B Reason
-(Ok x) >>= f = f x
-(Err reason) >>= f = Err reason
 
 -- the last word
 abbrev pub at_end : Verb → Met → List ℕ → Option Token → Result Met Reason

@@ -1,9 +1,11 @@
+//! What the words of a line ask for.
 ghost use Rattle.std.specs.Prelude.{◌≡◌, ◌≤◌, IfSome, IfOk};
 ghost use Rattle.std.specs.List.{list_any};
 ghost use Rattle.addr_text.specs.Address.{IsFamilyWidth};
 ghost use Rattle.addr_text.specs.PrefixText.{is_slash};
 ghost use Rattle.rib_store.specs.Plan.{IsWrongModule};
-ghost use Rattle.route_lang.specs.Asked.{is_alone, agrees, destination_of, gateway_of, address_asked, path_asked, leading, add_of, change_of, delete_of, value_or, setting_of, setting_asked, IsModuleOf, algo_of, tick_of, get_of, asked_by, HasOwnModule};
+ghost use Rattle.route_lang.specs.Asked.{agrees, destination_of, gateway_of, address_asked, path_asked, add_of, change_of, delete_of, setting_asked, IsModuleOf, algo_of, tick_of, get_of, asked_by, HasOwnModule};
+ghost use Rattle.route_lang.specs.Grammar.{is_alone, leading, value_or, setting_of};
 ghost use Rattle.route_lang.specs.Walk.{met_by, InRange};
 
 use crate::fault::Reason;

@@ -1,3 +1,4 @@
+//! Why a script is refused.
 ghost use Rattle.std.specs.Prelude.{◌≡◌};
 ghost use Rattle.route_lang.specs.Fault.{reason_text};
 

@@ -1,7 +1,9 @@
+//! Scripts that are drawn.
 ghost use Rattle.std.specs.Prelude.{◌≡◌, ◌≤◌, IfOk};
 ghost use Rattle.route_lang.specs.Asked.{HasOwnModule};
-ghost use Rattle.route_lang.specs.Generator.{next_state, state_after, draw, drawn_prefix, drawn_path, drawn_line, generated};
+ghost use Rattle.route_lang.specs.Generator.{next_state, state_after, draw, drawn_prefix, drawn_path, generated};
 ghost use Rattle.route_lang.specs.Limits.{lines_limit};
+ghost use Rattle.route_lang.specs.ReaderDraws.{asked_line};
 
 use crate::OutOfMemory;
 use crate::asked::{Asked, Shared};
@@ -54,9 +56,9 @@ pub fn generate(alloc: Global, seed: u32, count: u32) -> Result<Script, OutOfMem
 
 /// Draws what a line asks for.
 fn drawn_line(draws: &mut Draws) -> Asked
-    ensures asked { result ≡ (drawn_line draws.old.state).asked }
+    ensures asked { result ≡ (asked_line draws.old.state).asked }
     ensures module { HasOwnModule result }
-    ensures state { draws.new.state ≡ state_after (drawn_line draws.old.state).draws draws.old.state }
+    ensures state { draws.new.state ≡ state_after (asked_line draws.old.state).draws draws.old.state }
 {
     match draws.draw() % 16 {
         0..=7 => {

@@ -8,6 +8,7 @@
 mod asked;
 mod fault;
 mod generator;
+mod laws;
 mod line;
 mod read_line;
 mod script;
@@ -18,6 +19,7 @@ mod walk;
 
 pub use fault::{LineFault, Reason, ScriptError};
 pub use generator::generate;
+pub use laws::{law_first_fault_decides, law_lines_before_agree, law_skipped_line_is_none};
 pub use line::{Line, Lines};
 pub use script::{INPUT_MAX, LINE_MAX, LINES_MAX, Script, read_script};
 pub use spelling::{law_shown_text_reads_back, write_line};

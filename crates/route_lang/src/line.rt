@@ -1,3 +1,4 @@
+//! The lines of a script that ask for something.
 ghost use Rattle.std.specs.Prelude.{◌≡◌, ◌<◌, length, slice_get, Some};
 
 use prefix_width::Addr;

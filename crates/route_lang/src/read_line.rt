@@ -1,6 +1,8 @@
+//! One line is read.
 ghost use Rattle.std.specs.Prelude.{◌≡◌, ◌∷◌, [], ◌≤◌, IfOk, OnOk, MatchOption};
 ghost use Rattle.std.specs.List.{list_all};
-ghost use Rattle.route_lang.specs.Asked.{asked_of, by_words, from_command, behind_ignored, is_comment, is_ignored, is_taken, HasOwnModule};
+ghost use Rattle.route_lang.specs.Asked.{asked_of, by_words, HasOwnModule};
+ghost use Rattle.route_lang.specs.Grammar.{from_command, behind_ignored, is_comment, is_ignored, is_taken};
 ghost use Rattle.route_lang.specs.Limits.{lines_limit};
 ghost use Rattle.route_lang.specs.Text.{words_of};
 

@@ -1,3 +1,4 @@
+//! A line as the program writes it.
 ghost use Rattle.std.specs.Prelude.{◌≡◌, ◌∷◌, ◌++◌, [], ◌<◌, OnOk, OnErr, IfOk, IfSome, length, slice_get, codes, decimal};
 ghost use Rattle.std.specs.Arc.{arc_value};
 ghost use Rattle.addr_text.specs.Address.{IsFamilyWidth, address_text};

@@ -1,3 +1,4 @@
+//! Lines with their faults, and worked scripts.
 use crate::asked::{Asked, Shared};
 use crate::read_line::read_line;
 use crate::{

@@ -1,3 +1,4 @@
+//! Lines and words of a text.
 ghost use Rattle.std.specs.Prelude.{◌≡◌, ◌∷◌, [], ◌<◌, ◌≤◌, MatchOption, not, false, length, slice_index, IfSome};
 ghost use Rattle.std.specs.List.{position_from};
 ghost use Rattle.route_lang.specs.Text.{lines_of, words_of, is_blank, is_feed};

@@ -1,3 +1,4 @@
+//! The walk through the words of a line.
 ghost use Rattle.std.specs.Prelude.{◌≡◌, ◌≤◌, IfOk, IfSome};
 ghost use Rattle.route_lang.specs.Text.{words_of};
 ghost use Rattle.route_lang.specs.Asked.{is_inet6};

@@ -2,7 +2,8 @@
 use Rattle.std.proofs.Common.{◌≡◌, ◌∙◌, ◌+◌, ◌-◌, subst, arith}
 use Rattle.std.specs.Prelude.{IfOk}
 use Rattle.route_lang.specs.Script.{Reading}
-use Rattle.route_lang.specs.Generator.{generated}
+use Rattle.route_lang.specs.ReaderDraws.{script_drawn}
+use Rattle.route_lang.proofs.AgreementLemmas.{drawn_agrees}
 use Rattle.route_lang.proofs.ReadingLemmas.{room_behind}
 use Rattle.route_lang.proofs.GeneratorLemmas.{generated_is_script, one_more_line, all_lines}
 use Rattle.route_lang.proofs.generator.generate.Goals as goal
@@ -22,10 +23,10 @@ lines-preserved c =
 
 pub of-requires : goal.of-requires
 of-requires c =
-    let all = all_lines (c.args.count - c.lines.before) (c.lines.before + 1) c.lines.plans c.lines.lines.items c.lines.draws.state (generated c.args.seed c.args.count) (omega arith) c.lines.invariant.script in
+    let all = all_lines (c.args.count - c.lines.before) (c.lines.before + 1) c.lines.plans c.lines.lines.items c.lines.draws.state (script_drawn c.args.seed c.args.count) (omega arith) c.lines.invariant.script in
     rw all (generated_is_script c.args.seed c.args.count c.requires.1)
 
 pub returns : goal.returns
 returns c =
-    let all = all_lines (c.args.count - c.lines.before) (c.lines.before + 1) c.lines.plans c.lines.lines.items c.lines.draws.state (generated c.args.seed c.args.count) (omega arith) c.lines.invariant.script in
-    subst (λ (reading : Reading). IfOk c.of.result (λ script. script ≡ reading)) all c.of.ensures
+    let all = all_lines (c.args.count - c.lines.before) (c.lines.before + 1) c.lines.plans c.lines.lines.items c.lines.draws.state (script_drawn c.args.seed c.args.count) (omega arith) c.lines.invariant.script in
+    subst (λ (reading : Reading). IfOk c.of.result (λ script. script ≡ reading)) (all ∙ drawn_agrees c.args.seed c.args.count) c.of.ensures
