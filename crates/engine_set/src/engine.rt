@@ -1,3 +1,4 @@
+//! The modules as one.
 ghost use Rattle.std.specs.Prelude.{◌≡◌, ◌≢◌, ◌↔◌, ℕ, ◌+◌, ◌*◌, ◌≤◌, List, length, Ok, true, IfOk};
 ghost use Rattle.prefix_width.specs.Choice.{Suits};
 ghost use Rattle.prefix_width.specs.Prefix.{Block};
@@ -14,6 +15,7 @@ use radix_lockless::RadixTable;
 use range_search::RangeTable;
 use std::alloc::Global;
 use std::sync::ledger::Ledger;
+use std::thread::Threads;
 
 /// One of the lookup modules.
 #[derive(Drop)]
@@ -105,6 +107,30 @@ impl<const W: u32> Engine<W> {
             Engine::Range(table) => Ok(is_done(table.change_batch(alloc, edits, view)?)),
             Engine::Radix(table) => Ok(is_done(table.change_batch(alloc, edits, view)?)),
             Engine::Dxr(table) => Ok(is_done(table.change_batch(alloc, edits, view)?)),
+        }
+    }
+
+    /// As [`Engine::update`], and with the same answer. The chunks of DXR are made in pieces, each of
+    /// which may be made in a thread of its own. The other modules' work has no pieces.
+    pub fn update_par<R: Threads + Sync>(
+        &mut self,
+        rt: &R,
+        alloc: Global,
+        edits: &[Edit<W>],
+        view: &RouteView<W>,
+    ) -> Result<bool, OutOfMemory>
+        requires distinct { AreOfDistinct edits.now }
+        requires after { HaveAfter edits.now view.now }
+        requires before { Stands self.old (undone_all edits.now view.now) }
+        ensures taken { IfOk result (λ taken. IsTaken W (kind_of self.old) edits.now (undone_all edits.now view.now) view.now taken) }
+        ensures kind { kind_of self.new ≡ kind_of self.old }
+        ensures done { result ≡ Ok true → Stands self.new view.now }
+        ensures others { result ≡ Ok true → KeepsOthers edits.now self.old self.new }
+        ensures not_done { result ≢ Ok true → self.new ≡ self.old }
+    {
+        match self {
+            Engine::Dxr(table) => Ok(is_done(table.change_batch_par(rt, alloc, edits, view)?)),
+            _ => self.update(alloc, edits, view),
         }
     }
 

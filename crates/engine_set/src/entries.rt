@@ -1,3 +1,4 @@
+//! What each index of an image stands for.
 ghost use Rattle.std.specs.Prelude.{◌≡◌, ℕ, ◌<◌, Some, IsSome, IfOk, length, map, slice_get, option_copied};
 ghost use Rattle.std.specs.List.Sorted.{IsStrictlyIncreasing};
 ghost use Rattle.engine_set.specs.Entry.{entry_at, entry_index, place_at, resolved, ArePlaced};

@@ -1,3 +1,4 @@
+//! What one index stands for.
 ghost use Rattle.std.specs.Prelude.{◌≡◌, Some};
 ghost use Rattle.engine_set.specs.Entry.{entry_index, place_for, place_number, through};
 

@@ -1,3 +1,4 @@
+//! Direct cells and chunks in a family of any width.
 ghost use Rattle.std.specs.Prelude.{◌≡◌, ◌≢◌, ℕ, ◌+◌, ◌≤◌, List, Ok, IfOk};
 ghost use Rattle.prefix_width.specs.Prefix.{Block};
 ghost use Rattle.prefix_width.specs.Longest.{longest};
@@ -13,6 +14,7 @@ use prefix_width::{Addr, Prefix};
 use std::alloc::Global;
 use std::marker::Model;
 use std::sync::ledger::Ledger;
+use std::thread::Threads;
 
 /// Direct cells and chunks of IPv4: there is one at `W` of 32, and none at any other width.
 #[derive(Drop)]
@@ -71,6 +73,28 @@ impl<const W: u32> InetDxr<W> {
     {
         let table = &mut self.table;
         table.take_batch(alloc, edits, view)
+    }
+
+    /// As [`InetDxr::change_batch`], and with the same answer. The chunks are made in pieces, each of
+    /// which may be made in a thread of its own.
+    pub(crate) fn change_batch_par<R: Threads + Sync>(
+        &mut self,
+        rt: &R,
+        alloc: Global,
+        edits: &[Edit<W>],
+        view: &RouteView<W>,
+    ) -> Result<Verdict, OutOfMemory>
+        requires distinct { AreOfDistinct edits.now }
+        requires after { HaveAfter edits.now view.now }
+        requires before { IsChunksOf (undone_all edits.now view.now) self.old }
+        ensures verdict { IfOk result (IsBatchVerdict edits.now) }
+        ensures no_batch { result ≢ Ok Verdict.Batch }
+        ensures done { result ≡ Ok Verdict.Done → IsChunksOf view.now self.new }
+        ensures untouched { result ≡ Ok Verdict.Done → KeepsUntouched edits.now self.old self.new }
+        ensures not_done { result ≢ Ok Verdict.Done → self.new ≡ self.old }
+    {
+        let table = &mut self.table;
+        table.change_batch_par(rt, alloc, edits, view)
     }
 
     /// Readies it for copies.

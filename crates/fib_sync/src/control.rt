@@ -1,11 +1,14 @@
+//! The control of a family: from a plan to its images.
 use crate::OutOfMemory;
 use crate::state::State;
+use crate::updater::{ParallelUpdater, SerialUpdater};
 use engine_set::Image;
 use nhop_index::Indexes;
 use rib_store::{Plan, Reply, Rib};
 use std::alloc::Global;
 use std::marker::Model;
 use std::sync::Arc;
+use std::thread::Threads;
 
 /// What an advance comes to.
 #[derive(Drop)]
@@ -74,7 +77,24 @@ impl<const W: u32, const K: u64, const LIVE: u32> Control<W, K, LIVE> {
         ensures err { OnErr result (self.new.image ≡ self.old.image) }
         ensures ended { OnErr result (self.new.ended ≡ self.old.ended) }
     {
-        self.state.advance(alloc)
+        self.state.advance(&SerialUpdater, alloc)
+    }
+
+    /// As [`Control::advance`], and with the same answer. Where the module's work on a version has
+    /// parts, as DXR's has, each may be done in a thread of its own.
+    pub fn advance_par<R: Threads + Sync>(
+        &mut self,
+        rt: &R,
+        alloc: Global,
+    ) -> Result<Advance<W>, OutOfMemory>
+        ensures plan { self.new.plan ≡ self.old.plan }
+        ensures advances { IfOk result (Advances K LIVE self.old self.new) }
+        ensures control { IsControl K LIVE self.new }
+        ensures further { self.old.commands ≤ self.new.commands }
+        ensures err { OnErr result (self.new.image ≡ self.old.image) }
+        ensures ended { OnErr result (self.new.ended ≡ self.old.ended) }
+    {
+        self.state.advance(&ParallelUpdater { rt }, alloc)
     }
 
     /// The plan.

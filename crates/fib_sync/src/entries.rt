@@ -1,3 +1,4 @@
+//! What each index of a version stands for.
 ghost use Rattle.std.specs.Prelude.{◌≡◌, ℕ, ◌+◌, ◌<◌, length, take, Some, None, IfOk, OnOk, slice_get};
 ghost use Rattle.prefix_width.specs.Nexthop.{Hop};
 ghost use Rattle.nhgrp_slots.specs.PathList.{hops};

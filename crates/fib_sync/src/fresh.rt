@@ -1,3 +1,4 @@
+//! The indexes that a version gives anew.
 ghost use Rattle.std.specs.Prelude.{◌≡◌, ◌++◌, IfOk, OnOk, option_to_list};
 ghost use Rattle.nhop_index.specs.Indexes.{target_at};
 ghost use Rattle.fib_sync.specs.Fresh.{is_one, new_pair, new_pairs};

@@ -20,6 +20,7 @@ mod read;
 mod runner;
 mod running;
 mod state;
+mod updater;
 mod working;
 
 pub use control::{Advance, Control};

@@ -1,3 +1,4 @@
+//! The image of the version that is due.
 ghost use Rattle.std.specs.Prelude.{◌≡◌, ℕ, ◌+◌, ◌<◌, [], Some, true, is_some, IfOk};
 ghost use Rattle.prefix_width.specs.declared.module.Kind.TheVariants.{Range};
 ghost use Rattle.engine_set.specs.Engine.{Stands, kind_of};
@@ -14,6 +15,7 @@ use crate::index_pair::entries_after;
 use crate::making::make_lawful;
 use crate::numbering::Numbering;
 use crate::runner::Runner;
+use crate::updater::Updater;
 use crate::working::{Working, moved};
 use engine_set::{Engine, Entries, Image};
 use fib_edits::Touched;
@@ -32,7 +34,8 @@ pub(crate) struct NextVersion<const W: u32> {
 
 /// Makes the version that is due after the last image. Where memory is wanting, the working engine
 /// is given up.
-pub(crate) fn make_next<const W: u32, const K: u64, const LIVE: u32>(
+pub(crate) fn make_next<U: Updater<W>, const W: u32, const K: u64, const LIVE: u32>(
+    updater: &U,
     alloc: Global,
     working: Option<Working<W>>,
     runner: &Runner<W, LIVE>,
@@ -43,6 +46,7 @@ pub(crate) fn make_next<const W: u32, const K: u64, const LIVE: u32>(
     requires at { IsAt runner.now touched.now numbering.now working last.now }
     requires due { last.now.version < runner.now.made.number }
     requires named { is_some numbering.now.next ≡ true }
+    requires updater { U.ready updater.now }
     ensures next { IfOk result (IsNextVersion K LIVE runner.now last.now) }
     ensures came { IfOk result (λ n. (old : WorkingOf W) → working.entry ≡ Some old → CameByEdits K LIVE runner.now.plan last.now (arc_value n.image)) }
 {
@@ -50,7 +54,15 @@ pub(crate) fn make_next<const W: u32, const K: u64, const LIVE: u32>(
         unreachable!()
     };
     let kind = runner.made().kind;
-    let mut working = moved(alloc, working, kind, runner.rib(), indexes, touched)?;
+    let mut working = moved(
+        updater,
+        alloc,
+        working,
+        kind,
+        runner.rib(),
+        indexes,
+        touched,
+    )?;
     let engine = working.copy(alloc)?;
     let image = next_image(alloc, engine, runner, &numbering.now, indexes, last)?;
     let image = Arc::new(alloc, image)?;

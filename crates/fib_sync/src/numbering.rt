@@ -1,3 +1,4 @@
+//! The indexes of the last version, and of the next.
 ghost use Rattle.std.specs.Prelude.{◌≡◌, ℕ, ◌+◌, None, true, is_some, IfOk, OnOk, OnErr};
 ghost use Rattle.prefix_width.specs.Limits.{AreBanks, AreTargets};
 ghost use Rattle.rib_store.specs.Plan.{Planned};

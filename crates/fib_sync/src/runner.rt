@@ -1,3 +1,4 @@
+//! Commands are run on the table.
 ghost use Rattle.std.specs.Prelude.{◌≡◌, ℕ, ◌+◌, ◌^◌, ◌<◌, not, true, false, length, [], Some, slice_get, OnOk, OnErr};
 ghost use Rattle.std.specs.Arc.{arc_value};
 ghost use Rattle.prefix_width.specs.Choice.{SettingSuits, Suits, is_kind};

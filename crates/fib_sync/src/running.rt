@@ -1,3 +1,4 @@
+//! Commands are run up to the next version.
 ghost use Rattle.std.specs.Prelude.{◌≡◌, ℕ, ◌+◌, ◌<◌, ◌≤◌, false, true, length, OnOk, OnErr};
 ghost use Rattle.fib_sync.specs.Running.{GoesOn};
 ghost use Rattle.fib_sync.specs.Standing.{IsAhead, IsReady};

@@ -1,9 +1,11 @@
+//! What a control keeps, and how it goes on.
 use crate::OutOfMemory;
 use crate::control::Advance;
 use crate::next_version::{NextVersion, first_image, make_next};
 use crate::numbering::Numbering;
 use crate::runner::Runner;
 use crate::running::run_to_version;
+use crate::updater::Updater;
 use crate::working::Working;
 use engine_set::Image;
 use fib_edits::Touched;
@@ -80,7 +82,12 @@ impl<const W: u32, const K: u64, const LIVE: u32> State<W, K, LIVE> {
     }
 
     /// Goes on to the next version, as [`crate::Control::advance`] says.
-    pub(crate) fn advance(&mut self, alloc: Global) -> Result<Advance<W>, OutOfMemory>
+    pub(crate) fn advance<U: Updater<W>>(
+        &mut self,
+        updater: &U,
+        alloc: Global,
+    ) -> Result<Advance<W>, OutOfMemory>
+        requires updater { U.ready updater.now }
         ensures plan { self.new.plan ≡ self.old.plan }
         ensures advances { IfOk result (Advances K LIVE self.old self.new) }
         ensures control { IsControl K LIVE self.new }
@@ -100,6 +107,7 @@ impl<const W: u32, const K: u64, const LIVE: u32> State<W, K, LIVE> {
             image,
             kept,
         } = make_next(
+            updater,
             alloc,
             self.working.take(),
             &self.runner,

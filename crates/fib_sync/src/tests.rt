@@ -1,3 +1,4 @@
+//! Images beside the scan of their version's rows.
 ghost use Rattle.std.specs.Prelude.{◌≡◌, ◌<◌};
 ghost use Rattle.prefix_width.specs.Limits.{AreBanks, AreTargets};
 

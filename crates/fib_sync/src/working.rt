@@ -1,3 +1,4 @@
+//! The engine that edits are made in.
 ghost use Rattle.std.specs.Prelude.{◌≡◌, ℕ, ◌*◌, List, [], length, Some, Ok, true, false, IfOk, OnOk};
 ghost use Rattle.prefix_width.specs.Choice.{Suits};
 ghost use Rattle.prefix_width.specs.Prefix.{Block};
@@ -11,6 +12,7 @@ ghost use Rattle.fib_sync.specs.declared.working.Working.{Working as WorkingOf};
 
 use crate::OutOfMemory;
 use crate::runner::is_other;
+use crate::updater::Updater;
 use engine_set::Engine;
 use fib_edits::{Touched, follow, view_of};
 use module_trait::{Edit, RouteView};
@@ -56,8 +58,9 @@ impl<const W: u32> Working<W> {
     /// Takes it to the next version by the edits of the touched prefixes. The engine is built anew
     /// where its kind changes or it takes no such edits. Where memory is wanting it may stand between
     /// the versions, and is of no more use.
-    pub(crate) fn move_on<const K: u64, const LIVE: u32>(
+    pub(crate) fn move_on<U: Updater<W>, const K: u64, const LIVE: u32>(
         &mut self,
+        updater: &U,
         alloc: Global,
         kind: Kind,
         rib: &Rib<W, LIVE>,
@@ -67,6 +70,7 @@ impl<const W: u32> Working<W> {
         requires suits { Suits W kind }
         requires named { AreNamed (number_in indexes.now.names) rib.now }
         requires moves { (old : Naming) × (was : Table) × MayMove old (number_in indexes.now.names) was rib.now touched.now self.old }
+        requires updater { U.ready updater.now }
         ensures works { OnOk result (WorksAt kind (indexed (number_in indexes.now.names) rib.now) self.new) }
         ensures came { OnOk result (CameBy self.old.view (indexed (number_in indexes.now.names) rib.now) self.old.engine self.new.engine) }
     {
@@ -74,7 +78,7 @@ impl<const W: u32> Working<W> {
         let _ascending = (rib.len(), self.view.len(), touched.len());
         let edits = touched.edits(alloc, rib, indexes, &self.view)?;
         follow(&mut self.view, &edits)?;
-        if !self.takes(alloc, kind, &edits)? {
+        if !self.takes(updater, alloc, kind, &edits)? {
             let rows = self.view.rows(alloc)?;
             self.engine = Engine::build(alloc, kind, &rows)?;
         }
@@ -82,10 +86,17 @@ impl<const W: u32> Working<W> {
     }
 
     /// Whether the engine, if it is of the kind, has taken the edits of the view over.
-    fn takes(&mut self, alloc: Global, kind: Kind, edits: &[Edit<W>]) -> Result<bool, OutOfMemory>
+    fn takes<U: Updater<W>>(
+        &mut self,
+        updater: &U,
+        alloc: Global,
+        kind: Kind,
+        edits: &[Edit<W>],
+    ) -> Result<bool, OutOfMemory>
         requires distinct { AreOfDistinct edits.now }
         requires after { HaveAfter edits.now self.old.view }
         requires before { Stands self.old.engine (undone_all edits.now self.old.view) }
+        requires updater { U.ready updater.now }
         ensures view { self.new.view ≡ self.old.view }
         ensures stands { result ≡ Ok true → Stands self.new.engine self.old.view }
         ensures kind { result ≡ Ok true → kind_of self.new.engine ≡ kind }
@@ -95,7 +106,7 @@ impl<const W: u32> Working<W> {
         if is_other(self.engine.kind(), kind) {
             return Ok(false);
         }
-        self.engine.update(alloc, edits, &self.view)
+        updater.update(&mut self.engine, alloc, edits, &self.view)
     }
 
     /// A copy of the engine for an image.
@@ -113,7 +124,8 @@ impl<const W: u32> Working<W> {
 
 /// The working engine of the next version: the old one, moved by its edits, or where there is none
 /// one made anew.
-pub(crate) fn moved<const W: u32, const K: u64, const LIVE: u32>(
+pub(crate) fn moved<U: Updater<W>, const W: u32, const K: u64, const LIVE: u32>(
+    updater: &U,
     alloc: Global,
     working: Option<Working<W>>,
     kind: Kind,
@@ -124,12 +136,13 @@ pub(crate) fn moved<const W: u32, const K: u64, const LIVE: u32>(
     requires suits { Suits W kind }
     requires named { AreNamed (number_in indexes.now.names) rib.now }
     requires moves { (old : WorkingOf W) → working ≡ Some old → (naming : Naming) × (was : Table) × MayMove naming (number_in indexes.now.names) was rib.now touched.now old }
+    requires updater { U.ready updater.now }
     ensures works { IfOk result (WorksAt kind (indexed (number_in indexes.now.names) rib.now)) }
     ensures came { IfOk result (λ new. (old : WorkingOf W) → working.entry ≡ Some old → CameBy old.view (indexed (number_in indexes.now.names) rib.now) old.engine new.engine) }
 {
     match working {
         Some(mut working) => {
-            working.move_on(alloc, kind, rib, indexes, touched)?;
+            working.move_on(updater, alloc, kind, rib, indexes, touched)?;
             Ok(working)
         }
         None => Working::build(alloc, kind, rib, indexes),

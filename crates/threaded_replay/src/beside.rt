@@ -56,8 +56,8 @@ fn gather_done<A: Naming<32>, B: Naming<128>>(
     Ok(dones)
 }
 
-/// Has the control publish all versions and the workers make all gets, beside each other. The
-/// control's work is handed out first, so that calls which are run one after another end too.
+/// Has the control publish all versions and the workers make all gets, beside each other: the
+/// workers in threads of their own, the control in the thread that calls.
 pub(crate) fn run_beside<
     A: Naming<32> + Send + Sync,
     B: Naming<128> + Send + Sync,

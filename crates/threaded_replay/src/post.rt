@@ -18,32 +18,46 @@ struct Shelf<const W: u32, N: Naming<W>> {
 }
 
 impl<const W: u32, N: Naming<W>> Model for Shelf<W, N> {
-    ghost use Rattle.std.specs.Prelude.{ℕ, ◌≤◌, IfSome};
+    ghost use Rattle.std.specs.Prelude.{ℕ, ◌≤◌, IfSome, List};
     ghost use Rattle.std.specs.BTreeMap.{get};
     ghost use Rattle.std.specs.Ordering.{nat_cmp};
     ghost use Rattle.plan_cut.specs.PlanCourse.{version_before};
     ghost use Rattle.replay_run.specs.Limits.{targets_max};
 
-    ghost Value = { ℕ };
+    ghost Value = { List (ℕ × ℕ) };
 
-    ghost view = { λ s. 0 };
+    ghost view = { λ s. s.notes.entries };
 
     ghost invariant = { λ s. (synced : ℕ) → IfSome (get nat_cmp s.notes synced) (λ version. version_before targets_max N.plan synced ≤ version) };
 }
 
 impl<const W: u32, N: Naming<W>> Shelf<W, N> {
-    fn new(alloc: Global) -> Shelf<W, N> {
+    ghost use Rattle.std.specs.Prelude.{◌≡◌, ◌≤◌, [], OnErr, OnOk, IfSome, is_some};
+    ghost use Rattle.std.specs.Map.{lookup, remove_entry};
+    ghost use Rattle.std.specs.BTreeMap.{insert_entry, is_at};
+    ghost use Rattle.std.specs.Ordering.{nat_cmp};
+
+    /// No note has come.
+    fn new(alloc: Global) -> Shelf<W, N>
+        ensures { result ≡ [] }
+    {
         Shelf {
             notes: BTreeMap::new(alloc),
         }
     }
 
-    fn has(&self, synced: u32) -> bool {
+    /// Whether the note of a sync line has come.
+    fn has(&self, synced: u32) -> bool
+        ensures { result ≡ is_some (lookup (is_at (nat_cmp synced)) self.now) }
+    {
         self.notes.contains_key(&synced)
     }
 
+    /// Takes the note of a sync line in. An error leaves the others as they were.
     fn put(&mut self, synced: u32, note: TiedNote<W, N>) -> Result<(), OutOfMemory>
         requires { version_before targets_max N.plan synced ≤ note }
+        ensures ok { OnOk result (self.new ≡ insert_entry nat_cmp self.old synced note) }
+        ensures err { OnErr result (self.new ≡ self.old) }
     {
         if self.notes.insert(synced, note).is_err() {
             return Err(OutOfMemory);
@@ -51,8 +65,11 @@ impl<const W: u32, N: Naming<W>> Shelf<W, N> {
         Ok(())
     }
 
+    /// Gives the note of a sync line out, if it has come.
     fn take(&mut self, synced: u32) -> Option<TiedNote<W, N>>
-        ensures { IfSome result (λ version. version_before targets_max N.plan synced ≤ version) }
+        ensures note { result ≡ lookup (is_at (nat_cmp synced)) self.old }
+        ensures since { IfSome result (λ version. version_before targets_max N.plan synced ≤ version) }
+        ensures others { self.new ≡ remove_entry (is_at (nat_cmp synced)) self.old }
     {
         self.notes.remove(&synced)
     }

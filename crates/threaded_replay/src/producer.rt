@@ -15,7 +15,7 @@ use replay_run::{BANKS, TARGETS_MAX};
 use std::alloc::Global;
 use std::marker::PhantomData;
 use std::sync::{Arc, Wait};
-use std::thread;
+use std::thread::{self, Threads};
 
 /// The control of the fib that `N` names, which makes its versions, and what publishes them.
 #[derive(Drop)]
@@ -49,11 +49,11 @@ fn publish<const W: u32, R: Wait>(
 
 impl<const W: u32, N: Naming<W>> Producer<W, N> {
     /// Makes the next version and publishes it. Whether there was one.
-    fn go_on<R: Wait>(&mut self, rt: &R, alloc: Global) -> Result<bool, OutOfMemory>
+    fn go_on<R: Threads + Wait + Sync>(&mut self, rt: &R, alloc: Global) -> Result<bool, OutOfMemory>
         requires { IsAbreast banks targets_max N.table N.plan N.readers self.old.control self.old.publisher }
         ensures { IfOk result (GoesOn banks targets_max N.table N.plan N.readers self.old.control self.new.control self.new.publisher) }
     {
-        match self.control.advance(alloc)? {
+        match self.control.advance_par(rt, alloc)? {
             Advance::Next(image) => {
                 publish(rt, alloc, &image, &mut self.publisher)?;
                 Ok(true)
@@ -63,7 +63,7 @@ impl<const W: u32, N: Naming<W>> Producer<W, N> {
     }
 
     /// Publishes the versions that the first `synced` commands make, and maybe later ones.
-    pub(crate) fn publish_to<R: Wait>(
+    pub(crate) fn publish_to<R: Threads + Wait + Sync>(
         &mut self,
         rt: &R,
         alloc: Global,
@@ -83,7 +83,11 @@ impl<const W: u32, N: Naming<W>> Producer<W, N> {
     }
 
     /// Publishes all versions.
-    pub(crate) fn publish_all<R: Wait>(&mut self, rt: &R, alloc: Global) -> Result<(), OutOfMemory>
+    pub(crate) fn publish_all<R: Threads + Wait + Sync>(
+        &mut self,
+        rt: &R,
+        alloc: Global,
+    ) -> Result<(), OutOfMemory>
         requires { IsAbreast banks targets_max N.table N.plan N.readers self.old.control self.old.publisher }
         ensures { OnOk result (IsThrough banks targets_max N.table N.plan N.readers self.new.control self.new.publisher) }
     {

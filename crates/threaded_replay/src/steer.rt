@@ -12,6 +12,7 @@ use crate::post::Post;
 use crate::producer::Producer;
 use std::alloc::Global;
 use std::sync::Wait;
+use std::thread::Threads;
 
 /// How many workers there may be.
 const WORKERS_MAX: usize = 64;
@@ -32,7 +33,7 @@ struct Told {
 }
 
 /// Publishes what a sync line of IPv4 asks for, and hands a worker its note, if it hasn't that yet.
-fn hand_inet<A: Naming<32>, B: Naming<128>, R: Wait>(
+fn hand_inet<A: Naming<32>, B: Naming<128>, R: Threads + Wait + Sync>(
     rt: &R,
     alloc: Global,
     synced: u32,
@@ -55,7 +56,7 @@ fn hand_inet<A: Naming<32>, B: Naming<128>, R: Wait>(
 }
 
 /// The same of IPv6.
-fn hand_inet6<A: Naming<32>, B: Naming<128>, R: Wait>(
+fn hand_inet6<A: Naming<32>, B: Naming<128>, R: Threads + Wait + Sync>(
     rt: &R,
     alloc: Global,
     synced: u32,
@@ -78,7 +79,7 @@ fn hand_inet6<A: Naming<32>, B: Naming<128>, R: Wait>(
 }
 
 /// Does what a worker waits for ahead of a get.
-fn hand_note<A: Naming<32>, B: Naming<128>, R: Wait>(
+fn hand_note<A: Naming<32>, B: Naming<128>, R: Threads + Wait + Sync>(
     rt: &R,
     alloc: Global,
     ask: &Ask,
@@ -112,7 +113,7 @@ fn hand_note<A: Naming<32>, B: Naming<128>, R: Wait>(
 
 /// Publishes what the sync lines before the gets ask for, and hands the notes out: one for each
 /// worker and each family of which the worker makes a get between a sync line and the next.
-fn hand_out<A: Naming<32>, B: Naming<128>, R: Wait>(
+fn hand_out<A: Naming<32>, B: Naming<128>, R: Threads + Wait + Sync>(
     rt: &R,
     alloc: Global,
     asks: &[Ask],
@@ -142,7 +143,7 @@ fn hand_out<A: Naming<32>, B: Naming<128>, R: Wait>(
 }
 
 /// Publishes all versions of both families, the notes being handed out meanwhile.
-fn produce_all<A: Naming<32>, B: Naming<128>, R: Wait>(
+fn produce_all<A: Naming<32>, B: Naming<128>, R: Threads + Wait + Sync>(
     rt: &R,
     alloc: Global,
     asks: &[Ask],
@@ -163,7 +164,7 @@ fn produce_all<A: Naming<32>, B: Naming<128>, R: Wait>(
 
 /// Publishes all versions of both families, the notes being handed out meanwhile. Where memory is
 /// wanting it says so to each worker, so that none waits on.
-pub(crate) fn steer<A: Naming<32>, B: Naming<128>, R: Wait>(
+pub(crate) fn steer<A: Naming<32>, B: Naming<128>, R: Threads + Wait + Sync>(
     rt: &R,
     alloc: Global,
     asks: &[Ask],

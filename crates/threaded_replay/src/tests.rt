@@ -1,3 +1,4 @@
+//! Worked scripts by workers.
 ghost use Rattle.std.specs.Prelude.{◌<◌, ◌≤◌, ◌^◌};
 
 use crate::{Got, answer_gets, fibs};

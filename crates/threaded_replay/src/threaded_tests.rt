@@ -1,3 +1,4 @@
+//! Workers run beside each other.
 use crate::threaded;
 use replay_run::{Gate, OpenGate};
 use route_lang::read_script;

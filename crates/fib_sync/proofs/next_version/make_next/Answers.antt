@@ -35,13 +35,16 @@ moved-requires g c =
               c.made-kind.ensures.suits,
               (
                 named,
-                λ old e.
-                    (let here = subst (λ (k : Option (Working g.row.W)). IsAt r c.args.touched.now c.args.numbering.now k c.args.last.now) e at in (
-                      number_in (naming_at K most r.plan v),
-                      table_at most r.plan v,
-                      subst (λ (t : Table). MayMove (number_in (naming_at K most r.plan v)) (number_in c.in-Some.indexes.names) (table_at most r.plan v) t c.args.touched.now old) rib
-                          (may_move r c.args.touched.now c.args.numbering.now old c.args.last.now here c.in-Some.indexes.names is),
-                    )),
+                (
+                  λ old e.
+                      (let here = subst (λ (k : Option (Working g.row.W)). IsAt r c.args.touched.now c.args.numbering.now k c.args.last.now) e at in (
+                        number_in (naming_at K most r.plan v),
+                        table_at most r.plan v,
+                        subst (λ (t : Table). MayMove (number_in (naming_at K most r.plan v)) (number_in c.in-Some.indexes.names) (table_at most r.plan v) t c.args.touched.now old) rib
+                            (may_move r c.args.touched.now c.args.numbering.now old c.args.last.now here c.in-Some.indexes.names is),
+                      )),
+                  c.requires.updater,
+                ),
               ),
             ),
           ),

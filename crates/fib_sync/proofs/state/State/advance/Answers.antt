@@ -53,7 +53,7 @@ make_next-requires g c =
     let works = subst (MayWork (rows_at g.row.K g.row.LIVE new.plan last.version) last) (sym c.take.ensures.value) ran.works in
     let named = at_named new touched i.numbering c.name_next.new.self i.working c.take.result last ran more names works in
     let here = subst (λ (p : Picture g.row.W). IsAt new touched c.name_next.new.self c.take.result p × (p.version < new.made.number)) (sym c.deref-2.ensures) (named, more) in
-    (lit< tt, (lit< tt, (lit< tt, (lit< tt, (lit< tt, (lit< tt, (here.0, (here.1, c.in_ok-name_next.ensures.named))))))))
+    (lit< tt, (lit< tt, (lit< tt, (lit< tt, (lit< tt, (lit< tt, (here.0, (here.1, (c.in_ok-name_next.ensures.named, c.requires.updater)))))))))
 
 pub invariant_of-self-in_err-working : goal.invariant_of-self-in_err-working
 invariant_of-self-in_err-working g c =

@@ -24,7 +24,7 @@ takes-requires g c =
     let cut = cut_of m.0 new m.1 c.args.rib.now c.args.touched.now c.args.self.now m.2 c.requires.named c.len-2.ensures.ascending c.len.ensures.ascending c.len-3.ensures.ascending in
     let step = moved m.0 new m.1 c.args.rib.now c.args.touched.now cut c.args.self.now.view c.follow.new.view c.deref-2.result.now m.2.works.view (c.deref-2.ensures.value ∙ c.in_ok-edits.ensures)
     (c.in_ok-follow.ensures ∙ ap (λ e. done_all e c.args.self.now.view) (c.deref.ensures.value ∙ sym c.deref-2.ensures.value)) in
-    (lit< tt, (lit< tt, (step.are.distinct, (step.are.after, subst (Stands c.args.self.now.engine) (sym (step.back ∙ m.2.works.view)) m.2.works.engine))))
+    (lit< tt, (lit< tt, (step.are.distinct, (step.are.after, (subst (Stands c.args.self.now.engine) (sym (step.back ∙ m.2.works.view)) m.2.works.engine, c.requires.updater)))))
 
 pub build-requires : goal.build-requires
 build-requires g c =
