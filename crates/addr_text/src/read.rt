@@ -1,3 +1,4 @@
+//! Addresses and prefixes from their texts.
 ghost use Rattle.std.specs.Prelude.{◌≡◌, ◌↔◌, ◌<◌, ◌≤◌, ℕ, List, length, position, is_some, MatchOption, IfSome, Some};
 ghost use Rattle.std.specs.List.{list_any, before_first, after_first};
 ghost use Rattle.std.specs.Net.Grammar.{IsDotted, IsColonHex};

@@ -1,3 +1,4 @@
+//! Texts of both families that are taken, refused and written.
 use crate::{read_addr, read_number, read_prefix, read_v4, read_v6, write_addr, write_prefix};
 use prefix_width::{Addr, Prefix};
 use std::test::Fail;

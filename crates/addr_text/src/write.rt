@@ -1,3 +1,4 @@
+//! The texts of addresses and prefixes.
 ghost use Rattle.std.specs.Prelude.{◌≡◌, ◌++◌, OnOk, OnErr, IfOk, string_bytes};
 ghost use Rattle.std.specs.Net.Addr.{ipv4_octets, ipv6_segments};
 ghost use Rattle.std.specs.Net.Text.{ipv4_text, hex_groups_text};

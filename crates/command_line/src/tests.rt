@@ -1,3 +1,4 @@
+//! Command lines that are taken, and such as are refused.
 use crate::{Mode, Request, WordsError, read_words};
 use std::alloc::Global;
 use std::test::Fail;
@@ -80,6 +81,18 @@ fn other_words_are_refused(rt: HostRuntime) -> Result<(), Fail> {
             Err(WordsError::Usage),
             "of {line}"
         );
+    }
+    Ok(())
+}
+
+#[test]
+fn faults_have_these_texts(rt: HostRuntime) -> Result<(), Fail> {
+    let alloc = rt.alloc();
+    for (error, text) in [
+        (WordsError::Usage, "usage"),
+        (WordsError::OutOfMemory, "out of memory"),
+    ] {
+        assert_eq!(rt; format!(in alloc; "{error}")?.as_str(), text);
     }
     Ok(())
 }

@@ -1,3 +1,4 @@
+//! What the words of a command line ask for.
 ghost use Rattle.std.specs.Prelude.{◌≡◌, IfOk, IfSome, option_map, map, codes, string_bytes, ◌∷◌};
 ghost use Rattle.clap.specs.Words.{found_of, rows_of, first_of, one_of};
 ghost use Rattle.command_line.specs.Words.{line_of, mode_of, number_at, IsNumberIn, HasNumbers, IsBetween, asked, request_in, request_of, Gives};

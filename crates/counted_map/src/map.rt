@@ -1,3 +1,4 @@
+//! Keys with the number of their uses.
 use crate::OutOfMemory;
 use std::alloc::Global;
 use std::collections::BTreeMap;

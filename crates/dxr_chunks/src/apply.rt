@@ -1,3 +1,4 @@
+//! New chunks are put in the places of old ones.
 ghost use Rattle.std.specs.Prelude.{◌≡◌, ℕ, ◌+◌, ◌≤◌, length, max, OnOk, OnErr};
 ghost use Rattle.dxr_chunks.specs.Chunk.{AreMade, runs_in};
 ghost use Rattle.dxr_chunks.specs.Form.{working};

@@ -1,3 +1,4 @@
+//! The search in a chunk's fragments.
 ghost use Rattle.std.specs.Prelude.{◌≡◌, ℕ, ◌+◌, ◌-◌, ◌^◌, ◌<◌, ◌≤◌, Some, length, slice_get, slice_range};
 ghost use Rattle.std.specs.Map.{keys_of};
 ghost use Rattle.dxr_chunks.specs.Fragments.{IsAlternating, index_in};

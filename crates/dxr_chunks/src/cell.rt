@@ -1,3 +1,4 @@
+//! A direct cell: what a chunk's addresses lead to.
 ghost use Rattle.std.specs.Prelude.{◌≡◌, ◌<◌};
 ghost use Rattle.module_trait.specs.declared.nodes.TheConstants.{KEYS_MAX};
 

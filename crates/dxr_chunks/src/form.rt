@@ -1,3 +1,4 @@
+//! A table that takes changes, or a frozen copy.
 ghost use Rattle.std.specs.Prelude.{◌≡◌, ℕ, ◌+◌, ◌*◌, ◌^◌, ◌<◌, ◌≤◌, Some, IfOk, OnOk, OnErr, slice_get};
 ghost use Rattle.std.specs.Map.{keys_of};
 ghost use Rattle.module_trait.specs.Starts.{IsUp};

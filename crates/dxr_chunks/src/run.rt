@@ -1,3 +1,4 @@
+//! The fragments of one chunk, from the cells of all rows.
 ghost use Rattle.std.specs.Prelude.{◌≡◌, ◌≢◌, ℕ, ◌+◌, ◌*◌, ◌^◌, ◌<◌, ◌∷◌, [], ◌++◌, Some, IfOk, OnOk, slice_get};
 ghost use Rattle.std.specs.Map.{keys_of};
 ghost use Rattle.module_trait.specs.Starts.{IsUp};

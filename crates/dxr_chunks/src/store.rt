@@ -1,3 +1,4 @@
+//! Where direct cells and runs of fragments are kept.
 ghost use Rattle.std.specs.Prelude.{◌≡◌, ◌≢◌, ℕ, ◌+◌, ◌*◌, ◌^◌, ◌<◌, ◌≤◌, Some, None, [], IfOk, length};
 ghost use Rattle.module_trait.specs.Nodes.{node_at};
 ghost use Rattle.dxr_chunks.specs.Chunk.{HasTwo, IsChunk, runs_of};

@@ -1,3 +1,4 @@
+//! The table of direct cells and chunks.
 ghost use Rattle.std.specs.Prelude.{◌≡◌, ◌≢◌, ℕ, ◌+◌, ◌*◌, ◌^◌, ◌<◌, ◌≤◌, List, Ok, IfOk, OnOk, OnErr};
 ghost use Rattle.prefix_width.specs.Longest.{longest};
 ghost use Rattle.prefix_width.specs.Prefix.{Block};

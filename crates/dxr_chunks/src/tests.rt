@@ -1,3 +1,4 @@
+//! Drawn batches beside a table built anew, verdicts, and copies.
 ghost use Rattle.std.specs.Prelude.{◌≡◌, ◌≢◌, ℕ, ◌+◌, ◌<◌, ◌≤◌, List, Ok, IfOk, OnOk};
 ghost use Rattle.prefix_width.specs.Prefix.{Block};
 ghost use Rattle.module_trait.specs.Rows.{HaveIndexes};
@@ -279,22 +280,22 @@ fn drawn(x: u64) -> (Parts, Option<u16>) {
 }
 
 // Both modules answer alike.
-fn agree_at<L: Ledger>(
+fn agree_at<A: Module<32>, B: Module<32>, L: Ledger>(
     rt: &impl Abort,
-    tables: (&ScanTable<32>, &ChunkTable),
+    tables: (&A, &B),
     value: u128,
     steps: &mut Steps<L>,
 ) {
     if let Some(addr) = Addr::new(value) {
-        let plain = tables.0.lookup(addr, steps);
-        assert_eq!(rt; tables.1.lookup(addr, steps), plain, "at {value}");
+        let one = tables.0.lookup(addr, steps);
+        assert_eq!(rt; tables.1.lookup(addr, steps), one, "at {value}");
     }
 }
 
 // Both modules answer alike at the ends of a prefix and beside them, and at those of its chunks.
-fn agree_on<L: Ledger>(
+fn agree_on<A: Module<32>, B: Module<32>, L: Ledger>(
     rt: &impl Abort,
-    tables: (&ScanTable<32>, &ChunkTable),
+    tables: (&A, &B),
     prefix: &Prefix<32>,
     steps: &mut Steps<L>,
 ) {
@@ -377,11 +378,13 @@ fn drawn_batches_answer_as_the_plain_module(rt: HostRuntime) -> Result<(), Fail>
     take_batches::<Brand>(&rt, rt.alloc(), Blank::new(1))
 }
 
-// Chunks that are made in pieces answer as the plain module.
+// A batch that is made in pieces has the verdict of the same batch made whole, and leaves a table
+// with the same answers.
 fn take_pieces<R: Threads + Sync + Abort, L: Ledger>(
     rt: &R,
     alloc: Global,
     parts: Parts,
+    want: Verdict,
     blank: Blank,
 ) -> Result<(), Fail>
     requires name { blank.name ≡ L.name }
@@ -390,20 +393,27 @@ fn take_pieces<R: Threads + Sync + Abort, L: Ledger>(
 {
     let mut steps = Steps::<L>::new(alloc, blank)?;
     let mut view = halves(alloc)?;
+    let mut whole = built(alloc, &view)?;
+    let one = batch_to(alloc, &mut whole, &mut view, parts, Some(3))?;
+    let mut view = halves(alloc)?;
     let mut table = built(alloc, &view)?;
-    match batch_in_pieces(rt, alloc, &mut table, &mut view, parts, Some(3))? {
-        Verdict::Done => {}
-        _ => return Err("not done".into()),
-    }
-    let plain = plain(alloc, &view)?;
-    agree_on(rt, (&plain, &table), &prefix(parts)?, &mut steps);
+    let other = batch_in_pieces(rt, alloc, &mut table, &mut view, parts, Some(3))?;
+    assert!(rt; one == want && other == want, "at {}/{}", parts.0, parts.1);
+    agree_on(rt, (&whole, &table), &prefix(parts)?, &mut steps);
     Ok(())
 }
 
 #[test]
-fn a_batch_is_made_in_one_two_and_eight_pieces(rt: HostRuntime) -> Result<(), Fail> {
-    for parts in [(CHUNK, 16), (0x0a00_0000, 15), (0x0a00_0000, 8)] {
-        take_pieces::<HostRuntime, Brand>(&rt, rt.alloc(), parts, Blank::new(1))?;
+fn one_two_or_eight_pieces_are_the_batch_made_whole(rt: HostRuntime) -> Result<(), Fail> {
+    let cases = [
+        ((CHUNK, 16), Verdict::Done),
+        ((0x0a00_0000, 15), Verdict::Done),
+        ((0x0a00_0000, 8), Verdict::Done),
+        ((0x1000_0000, 4), Verdict::Done),
+        ((0x1000_0000, 3), Verdict::Rebuild),
+    ];
+    for (parts, want) in cases {
+        take_pieces::<HostRuntime, Brand>(&rt, rt.alloc(), parts, want, Blank::new(1))?;
     }
     Ok(())
 }

@@ -1,3 +1,4 @@
+//! The chunks that edits touch.
 ghost use Rattle.std.specs.Prelude.{◌≡◌, ◌^◌, ◌<◌, ◌≤◌, IfOk, OnOk};
 ghost use Rattle.std.specs.List.{AllByRecursion};
 ghost use Rattle.prefix_width.specs.Prefix.{IsBlock};

@@ -1,3 +1,4 @@
+//! The table of direct cells and fragments, built as a whole.
 ghost use Rattle.std.specs.Prelude.{◌≡◌, ℕ, ◌+◌, ◌*◌, ◌^◌, ◌<◌, ◌≤◌, Some, IfOk, length, min, slice_get};
 ghost use Rattle.std.specs.Map.{keys_of};
 ghost use Rattle.module_trait.specs.Starts.{IsUp};

@@ -1,3 +1,4 @@
+//! Edits from one version to the next, by hand.
 ghost use Rattle.std.specs.Prelude.{OnOk};
 ghost use Rattle.module_trait.specs.Rows.{HaveIndexes};
 

@@ -1,3 +1,4 @@
+//! The prefixes that commands touch.
 ghost use Rattle.std.specs.Prelude.{◌≡◌, [], ◌∷◌, IfOk, OnOk, OnErr, length};
 ghost use Rattle.std.specs.List.Sorted.{IsStrictlySortedBy};
 ghost use Rattle.prefix_width.specs.Order.{block_cmp};

@@ -1,3 +1,4 @@
+//! The rows of a version by their indexes.
 ghost use Rattle.std.specs.Prelude.{◌≡◌, IfOk, OnOk};
 ghost use Rattle.fib_edits.specs.Edits.{done_all};
 ghost use Rattle.fib_edits.specs.Named.{number_in, indexed, index_at};

@@ -1,3 +1,4 @@
+//! The answer of a lookup.
 ghost use Rattle.std.specs.Prelude.{◌≡◌, ℕ, ◌+◌, ◌<◌, ◌≤◌, All, Some, length};
 ghost use Rattle.rib_store.specs.Weights.{IsWeighted};
 ghost use Rattle.plan_cut.specs.PlanCourse.{versions_of};

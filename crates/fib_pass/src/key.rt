@@ -1,3 +1,4 @@
+//! The plan that a fib's images are of.
 use engine_set::Image;
 use epoch_core::{Lawful, ReaderSeat, Standing};
 use rib_store::Plan;

@@ -1,3 +1,4 @@
+//! Passes that hold a version up, and exact totals.
 ghost use Rattle.std.specs.Prelude.{◌≡◌, ◌+◌, ◌<◌, All, length};
 ghost use Rattle.prefix_width.specs.Limits.{AreBanks, AreTargets};
 ghost use Rattle.fib_sync.specs.Lawful.{IsLawful};

@@ -1,3 +1,4 @@
+//! Work that takes steps of a count of its own.
 ghost use Rattle.std.specs.Prelude.{◌≡◌, ◌<◌, OnOk, OnErr};
 
 use crate::OutOfMemory;

@@ -1,3 +1,4 @@
+//! A value behind a pointer.
 ghost use Rattle.std.specs.Prelude.{◌≡◌, IfOk};
 
 use crate::OutOfMemory;

@@ -1,3 +1,4 @@
+//! Cells in a row that is read alone.
 ghost use Rattle.std.specs.Prelude.{◌≡◌, IfOk};
 
 use crate::OutOfMemory;

@@ -1,3 +1,4 @@
+//! A change of one row, and the verdicts on changes.
 ghost use Rattle.std.specs.Prelude.{◌≡◌, All};
 ghost use Rattle.std.specs.Option.{SomeIff};
 ghost use Rattle.module_trait.specs.Edit.{IsEdit};

@@ -1,3 +1,4 @@
+//! Nodes that are read alone, on shared pages.
 ghost use Rattle.std.specs.Prelude.{◌≡◌, ℕ, ◌<◌, ◌≤◌, None, IfOk, IfNone, unwrap_or, option_copied};
 ghost use Rattle.module_trait.specs.Nodes.{node_at, frozen_at, paged_at, contents, IsExact, IsBare, IsFilled};
 

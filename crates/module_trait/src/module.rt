@@ -1,3 +1,4 @@
+//! What every lookup module does.
 ghost use Rattle.std.specs.Prelude.{◌≡◌, ◌≢◌, ℕ, ◌+◌, ◌≤◌, List, [], IfOk, OnOk, OnErr};
 ghost use Rattle.prefix_width.specs.Prefix.{Block};
 ghost use Rattle.prefix_width.specs.Longest.{longest};

@@ -1,6 +1,7 @@
+//! Copies of nodes keep what they had.
 ghost use Rattle.std.specs.Prelude.{◌≡◌, ◌<◌, IsSome};
 
-use crate::{NodeReads, Nodes, Steps};
+use crate::{KEYS_MAX, NodeReads, Nodes, Steps};
 use std::alloc::Global;
 use std::marker::Brand;
 use std::process::Abort;
@@ -55,4 +56,19 @@ fn keep_their_nodes<L: Ledger>(rt: &impl Abort, alloc: Global, blank: Blank) -> 
 #[test]
 fn copies_keep_their_nodes(rt: HostRuntime) -> Result<(), Fail> {
     keep_their_nodes::<Brand>(&rt, rt.alloc(), Blank::new(1))
+}
+
+// 2^32 numbers but the last 65,536, which are no key.
+#[test]
+fn keys_leave_65536_numbers_of_32_bits(rt: HostRuntime) {
+    assert_eq!(rt; KEYS_MAX, 4_294_901_760);
+}
+
+// No clause tells how much memory a slab takes for the room that it was asked for.
+#[test]
+fn room_for_one_node_takes_memory_for_few(rt: HostRuntime) -> Result<(), Fail> {
+    let mut nodes = Nodes::<u32, 64>::new(rt.alloc());
+    nodes.reserve(1)?;
+    assert!(rt; nodes.capacity() <= 8);
+    Ok(())
 }

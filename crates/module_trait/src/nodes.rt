@@ -1,3 +1,4 @@
+//! Nodes by their keys, whose copies share pages.
 ghost use Rattle.std.specs.Prelude.{◌≡◌, ℕ, ◌+◌, ◌<◌, ◌≤◌, [], Some, None, IsSome, IfOk, OnOk, length, max};
 ghost use Rattle.module_trait.specs.Nodes.{node_at, frozen_at, contents, marked, Updates, IsExact, IsKept};
 
@@ -169,5 +170,13 @@ impl<T: Clone + Drop, const PAGE: usize> Nodes<T, PAGE> {
     {
         let (pages, made) = pages_of::<T, PAGE>(alloc, &self.slab, &self.pages, &self.marks)?;
         Ok(FrozenNodes::of(pages, made))
+    }
+}
+
+#[cfg(test)]
+impl<T, const PAGE: usize> Nodes<T, PAGE> {
+    /// How many nodes there is memory for.
+    pub(crate) fn capacity(&self) -> usize {
+        self.slab.capacity()
     }
 }

@@ -1,3 +1,4 @@
+//! How nodes lie on pages.
 ghost use Rattle.std.specs.Prelude.{◌≡◌, ℕ, ◌+◌, ◌*◌, ◌/◌, ◌^◌, ◌<◌, ◌≤◌, None, length, OnOk, OnErr, IfOk, option_copied, slice_index_or, slice_set, true, false};
 ghost use Rattle.module_trait.specs.Nodes.{node_at, paged_at, contents, cells_of, marked, IsExact, IsKept, IsPageOf, AreUnmarked, SameNodes};
 

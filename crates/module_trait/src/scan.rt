@@ -1,3 +1,4 @@
+//! The module that looks at each row.
 ghost use Rattle.std.specs.Prelude.{◌≡◌, length};
 ghost use Rattle.prefix_width.specs.Longest.{longer, only_if_in};
 

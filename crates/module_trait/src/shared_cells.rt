@@ -1,3 +1,4 @@
+//! A row of cells that its copies share.
 ghost use Rattle.std.specs.Prelude.{◌≡◌, IfOk};
 
 use crate::OutOfMemory;

@@ -1,3 +1,4 @@
+//! The count of steps.
 ghost use Rattle.std.specs.Prelude.{◌≡◌, ◌+◌, ◌<◌, IfOk};
 
 use crate::OutOfMemory;

@@ -1,3 +1,4 @@
+//! One sweep over rows gives the cells of all addresses.
 ghost use Rattle.std.specs.Prelude.{◌≡◌, ℕ, ◌-◌, ◌^◌, ◌<◌, ◌≤◌, [], ◌∷◌, ◌++◌, List, All, IfOk, OnOk, vec_len};
 ghost use Rattle.std.specs.Map.{keys_of};
 ghost use Rattle.prefix_width.specs.Prefix.{Block};

@@ -1,3 +1,4 @@
+//! The scan, views and edits, by hand.
 ghost use Rattle.std.specs.Prelude.{◌≡◌, ◌<◌, ◌≤◌, IfOk, OnOk};
 ghost use Rattle.module_trait.specs.Rows.{HaveIndexes};
 

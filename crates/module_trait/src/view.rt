@@ -1,3 +1,4 @@
+//! The rows of a version, by prefix.
 ghost use Rattle.std.specs.Prelude.{◌≡◌, [], Some, All, IfOk, OnOk, OnErr, IfSome, IfNone, length, filter};
 ghost use Rattle.std.specs.BTreeMap.Range.{IsLeBy, entries_between};
 ghost use Rattle.std.specs.declared.ops.Bound.TheVariants.{Included};

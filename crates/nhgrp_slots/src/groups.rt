@@ -1,3 +1,4 @@
+//! How often each group is used.
 use crate::OutOfMemory;
 use crate::paths::Paths;
 use counted_map::CountedMap;

@@ -1,3 +1,4 @@
+//! What paths have in common.
 ghost use Rattle.std.specs.Prelude.{◌≡◌};
 ghost use Rattle.std.specs.Ordering.{is_lt};
 ghost use Rattle.prefix_width.specs.Order.{hop_cmp};

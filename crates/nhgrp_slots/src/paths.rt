@@ -1,3 +1,4 @@
+//! The paths of a route.
 use crate::{OutOfMemory, path_facts};
 use prefix_width::{Addr, Nexthop, Path};
 use std::alloc::Global;

@@ -1,3 +1,4 @@
+//! The slots of a group.
 ghost use Rattle.std.specs.Prelude.{◌≡◌, ◌≤◌, ◌++◌, All, IfOk, OnOk, length, replicate, sum};
 ghost use Rattle.prefix_width.specs.Path.{IsWeight};
 ghost use Rattle.nhgrp_slots.specs.Slots.{HaveWeights, HoldPicked, pick, slots_of, weights};

@@ -1,3 +1,4 @@
+//! Weights and slots, lists of paths and targets, by hand.
 use crate::{
     GroupTable, OutOfMemory, Paths, Slots, Target, compile, law_shares_are_all,
     law_slots_are_filled, law_slots_hold_picked, law_small_shares_are_exact,

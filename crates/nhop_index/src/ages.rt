@@ -1,3 +1,4 @@
+//! How long each index is unused.
 ghost use Rattle.std.specs.Prelude.{◌≡◌, ℕ, ◌+◌, ◌<◌, ◌≤◌, max, List, ◌∷◌, length, OnOk, OnErr, get_or};
 ghost use Rattle.std.specs.Map.{values_of};
 ghost use Rattle.nhop_index.specs.Indexes.{is_used, least_unused};

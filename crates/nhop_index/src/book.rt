@@ -1,3 +1,4 @@
+//! The book that gives targets their indexes.
 use crate::OutOfMemory;
 use crate::ages::age;
 use crate::indexes::Indexes;

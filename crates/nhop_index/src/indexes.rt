@@ -1,3 +1,4 @@
+//! The indexes of one version.
 use crate::OutOfMemory;
 use crate::table::NameTable;
 use nhgrp_slots::{Paths, Target};

@@ -1,3 +1,4 @@
+//! Where each index stands among a version's targets.
 ghost use Rattle.std.specs.Prelude.{◌≡◌, ◌≤◌, IfOk, OnOk, None, length, replicate};
 ghost use Rattle.std.specs.Map.{values_of};
 ghost use Rattle.nhop_index.specs.Table.{ArePlaces, IsOrder, IsEnd, place_at, with_place};

@@ -1,3 +1,4 @@
+//! The targets of a version with their indexes.
 ghost use Rattle.std.specs.Prelude.{◌≡◌, length};
 ghost use Rattle.std.specs.List.Sorted.{IsSearchInRange};
 ghost use Rattle.nhgrp_slots.specs.Target.{target_cmp, target_of};

@@ -1,3 +1,4 @@
+//! How often each nexthop is used.
 use crate::OutOfMemory;
 use counted_map::CountedMap;
 use prefix_width::Nexthop;

@@ -1,3 +1,4 @@
+//! Sources and sinks in memory, which fail where they are told to.
 ghost use Rattle.std.specs.Prelude.{◌≡◌, ◌+◌, ◌-◌, ◌++◌, ◌==◌, ◌≤◌, ◌<◌, [], length, drop, take, IfOk, Some};
 ghost use Rattle.std.specs.List.{list_any};
 ghost use Rattle.outside_io.specs.Outside.{Reads, Writes};

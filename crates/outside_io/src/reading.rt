@@ -1,3 +1,4 @@
+//! A source is read to its end.
 ghost use Rattle.std.specs.Prelude.{◌≡◌, ◌<◌, ◌≤◌, ◌-◌, ◌^◌, length, IfOk, IsErrOf};
 ghost use Rattle.outside_io.specs.Faults.{Rose};
 ghost use Rattle.outside_io.specs.Whole.{ReadsAll, ReadsPast, ReadsWithin};

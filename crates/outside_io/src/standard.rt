@@ -1,3 +1,4 @@
+//! Sources and sinks over std's streams.
 ghost use Rattle.std.specs.Prelude.{◌≡◌, ◌<◌, ◌≤◌, length};
 ghost use Rattle.outside_io.specs.Faults.{faults_after_read, faults_after_write};
 ghost use Rattle.outside_io.specs.Outside.{Reads, Writes};

@@ -1,6 +1,7 @@
+//! Streams that fail, end and are interrupted.
 use crate::{
-    MemSink, MemSource, Put, ReadError, Sink, Source, StdSink, StdSource, Taken, read_all,
-    write_all,
+    MemSink, MemSource, Put, ReadError, Sink, Source, StdSink, StdSource, Taken, WriteFailed,
+    read_all, write_all,
 };
 use std::io;
 use std::test::Fail;
@@ -107,4 +108,19 @@ fn a_call_is_tried_again_at_100_interruptions_and_fails_at_one_more(rt: HostRunt
         assert_eq!(rt; source.read(&mut [0; 4]), Taken::Some(1), "of {left}");
         assert_eq!(rt; sink.write(b"abcd"), Put::Took(1), "of {left}");
     }
+}
+
+#[test]
+fn faults_have_these_texts(rt: HostRuntime) -> Result<(), Fail> {
+    let alloc = rt.alloc();
+    for (error, text) in [
+        (ReadError::Failed, "read fault"),
+        (ReadError::TooLarge, "input too large"),
+        (ReadError::OutOfMemory, "out of memory"),
+    ] {
+        assert_eq!(rt; format!(in alloc; "{error}")?.as_str(), text);
+    }
+    let failed = WriteFailed;
+    assert_eq!(rt; format!(in alloc; "{failed}")?.as_str(), "write fault");
+    Ok(())
 }

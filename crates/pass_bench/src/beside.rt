@@ -1,3 +1,4 @@
+//! Passes beside a publisher.
 ghost use Rattle.std.specs.Prelude.{◌≡◌};
 ghost use denote.Param.Send.{IsSync};
 

@@ -1,3 +1,4 @@
+//! Drawn routes.
 /// A linear congruential generator of 64 bits, of which a draw gives the upper half.
 #[derive(Drop)]
 pub(crate) struct Draws {

@@ -1,3 +1,4 @@
+//! Why a run ends early.
 use rib_store::PushError;
 use std::alloc::{AllocError, AllocFailed};
 use std::io;

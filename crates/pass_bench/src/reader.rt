@@ -1,3 +1,4 @@
+//! What a pass does, and what it found.
 ghost use Rattle.std.specs.Prelude.{◌≡◌, ◌<◌};
 
 use crate::clock::cpu_time;

@@ -1,3 +1,4 @@
+//! What is printed.
 ghost use Rattle.std.specs.Prelude.{◌≡◌, ◌≤◌, ◌+◌, ◌-◌, ◌*◌, ◌/◌, ◌^◌, max, min};
 
 use crate::beside::{Beside, run_beside};

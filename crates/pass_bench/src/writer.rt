@@ -1,3 +1,4 @@
+//! What the publisher does.
 ghost use Rattle.std.specs.Prelude.{◌≡◌, ◌+◌, All, IfOk, OnOk, length};
 ghost use Rattle.fib_sync.specs.Lawful.{IsLawful};
 ghost use Rattle.fib_sync.specs.VersionNames.{fresh_at, names_at};

@@ -1,3 +1,4 @@
+//! When a version is cut.
 use rib_store::Command;
 use std::marker::Model;
 

@@ -1,3 +1,4 @@
+//! Cuts of worked bursts.
 ghost use Rattle.std.specs.Prelude.{◌+◌, ◌*◌, ◌<◌, ◌≤◌};
 
 use crate::{Cut, Cutter, accepted};

@@ -1,3 +1,4 @@
+//! Addresses.
 ghost use Rattle.std.specs.Prelude.{◌≡◌, ◌==◌, ℕ, ◌-◌, ◌/◌, ◌%◌, ◌^◌, ◌<◌, ◌≤◌};
 ghost use Rattle.prefix_width.specs.Prefix.{bit_of};
 ghost use Rattle.std.specs.Option.{SomeIff};

@@ -1,3 +1,4 @@
+//! The laws of prefixes and of orders.
 ghost use Rattle.std.specs.Prelude.{◌≡◌};
 ghost use Rattle.std.specs.Ordering.{nat_cmp};
 ghost use Rattle.prefix_width.specs.Laws.{ContainsItsRange, CoversIsInclusion, FindsLongest, OrderedByLength, PrefixesNest};

@@ -1,3 +1,4 @@
+//! The longest match among rows.
 ghost use Rattle.std.specs.Prelude.{◌≡◌};
 ghost use Rattle.prefix_width.specs.Longest.{longest, longer, only_if_in};
 

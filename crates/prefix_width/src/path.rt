@@ -1,3 +1,4 @@
+//! Paths: a nexthop with its weight.
 use crate::nexthop::{Nexthop, NhKind};
 use std::marker::Model;
 

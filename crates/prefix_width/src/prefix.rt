@@ -1,3 +1,4 @@
+//! Prefixes.
 ghost use Rattle.std.specs.Prelude.{◌≡◌, ◌+◌, ◌-◌, ◌*◌, ◌^◌, ◌<◌, ◌≤◌};
 ghost use Rattle.std.specs.Option.{SomeIff};
 ghost use Rattle.prefix_width.specs.Prefix.{Block, IsBlock, IsCommonLen, head_of, masked_block, contains, covers, last_of};

@@ -1,3 +1,4 @@
+//! A row is added to a trie.
 ghost use Rattle.std.specs.Prelude.{◌≡◌, ◌≢◌, ◌<◌, ◌≤◌, Some, None, true};
 ghost use Rattle.prefix_width.specs.Prefix.{IsBlock, IsCommonLen, contains};
 ghost use Rattle.module_trait.specs.Nodes.{node_at};

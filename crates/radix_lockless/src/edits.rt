@@ -1,3 +1,4 @@
+//! Edits are made in a trie.
 ghost use Rattle.std.specs.Prelude.{◌≡◌, ℕ, ◌*◌, ◌≤◌, List, [], length, max, OnOk, OnErr};
 ghost use Rattle.prefix_width.specs.Prefix.{Block};
 ghost use Rattle.module_trait.specs.Nodes.{node_at};

@@ -1,3 +1,4 @@
+//! A trie of all rows.
 ghost use Rattle.std.specs.Prelude.{◌≡◌, ◌*◌, ◌≤◌, [], length, IfOk};
 ghost use Rattle.module_trait.specs.Nodes.{node_at};
 ghost use Rattle.module_trait.specs.Rows.{IsAscending};

@@ -1,3 +1,4 @@
+//! The nodes of a copy.
 ghost use Rattle.std.specs.Prelude.{◌≡◌, ℕ, ◌+◌, ◌<◌, ◌≤◌, List, IfOk};
 ghost use Rattle.prefix_width.specs.Prefix.{Block};
 ghost use Rattle.prefix_width.specs.Longest.{longest};

@@ -1,3 +1,4 @@
+//! The key of a node.
 ghost use Rattle.std.specs.Prelude.{◌≡◌, ◌<◌};
 ghost use Rattle.module_trait.specs.declared.nodes.TheConstants.{KEYS_MAX};
 ghost use Rattle.radix_lockless.specs.Packed.{child_of};

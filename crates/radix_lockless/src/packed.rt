@@ -1,3 +1,4 @@
+//! A node in few bytes.
 ghost use Rattle.std.specs.Prelude.{◌≡◌, ◌≤◌, if◌then◌else◌};
 ghost use Rattle.prefix_width.specs.Prefix.{IsBlock, contains};
 ghost use Rattle.radix_lockless.specs.declared.node.Node.{Node};

@@ -1,3 +1,4 @@
+//! A row is taken out of a trie.
 ghost use Rattle.std.specs.Prelude.{◌≡◌, ◌⊎◌, ◌≤◌, Some, None, IsSome};
 ghost use Rattle.std.specs.Option.{option_or};
 ghost use Rattle.prefix_width.specs.Prefix.{IsBlock};

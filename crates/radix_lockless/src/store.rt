@@ -1,3 +1,4 @@
+//! The nodes of a trie that takes changes.
 ghost use Rattle.std.specs.Prelude.{◌≡◌, ℕ, ◌+◌, ◌<◌, ◌≤◌, List, [], Some, None, IsSome, IfOk, OnOk, max};
 ghost use Rattle.prefix_width.specs.Prefix.{Block};
 ghost use Rattle.prefix_width.specs.Longest.{longest};

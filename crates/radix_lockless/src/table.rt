@@ -1,3 +1,4 @@
+//! The module: a trie that takes changes, or a copy.
 ghost use Rattle.std.specs.Prelude.{◌≡◌, ◌≢◌, ℕ, ◌+◌, ◌*◌, ◌≤◌, List, length, max, Ok, IfOk, OnOk, OnErr};
 ghost use Rattle.prefix_width.specs.Prefix.{Block};
 ghost use Rattle.module_trait.specs.Edit.{undone, undone_all, AreOfDistinct, HaveAfter};

@@ -1,3 +1,4 @@
+//! Drawn edits beside a scan, and nested prefixes.
 ghost use Rattle.std.specs.Prelude.{◌≡◌, ◌<◌, ◌≤◌, IfOk, OnOk};
 ghost use Rattle.module_trait.specs.Rows.{HaveIndexes};
 ghost use Rattle.radix_lockless.specs.Table.{IsRadixOf};

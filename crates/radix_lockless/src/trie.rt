@@ -1,3 +1,4 @@
+//! The trie, and the way down to a prefix.
 ghost use Rattle.std.specs.Prelude.{◌≡◌, ◌⊎◌, ℕ, ◌+◌, ◌≤◌, List, [], Some, IfSome, IsSome};
 ghost use Rattle.prefix_width.specs.Prefix.{Block, IsBlock};
 ghost use Rattle.module_trait.specs.Nodes.{node_at};

@@ -1,3 +1,4 @@
+//! The bits of an address in words of their width.
 ghost use Rattle.std.specs.Prelude.{◌≡◌, ◌==◌, ℕ, ◌/◌, ◌^◌, ◌<◌, ◌≤◌};
 
 /// How a node keeps the number of an address.

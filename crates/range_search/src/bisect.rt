@@ -1,3 +1,4 @@
+//! The search among the starts of ranges.
 ghost use Rattle.std.specs.Prelude.{◌≡◌, ℕ, ◌+◌, ◌-◌, ◌^◌, ◌<◌, ◌≤◌, if◌then◌else◌, length};
 ghost use Rattle.range_search.specs.Bisect.{IsLast};
 

@@ -1,3 +1,4 @@
+//! Whether two lists have the same starts.
 ghost use Rattle.std.specs.Prelude.{◌≡◌, ◌<◌, ◌↔◌, IsTrue, IfOk, length};
 ghost use Rattle.std.specs.Map.{keys_of};
 

@@ -1,3 +1,4 @@
+//! The start of a range, in the width of its family.
 ghost use Rattle.std.specs.Prelude.{◌≡◌, ℕ, ◌+◌, ◌^◌, ◌<◌, ◌↔◌, IsTrue, IfSome, IfNone};
 
 /// The address at which a cell begins, as wide as the cells have it.

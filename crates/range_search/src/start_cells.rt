@@ -1,3 +1,4 @@
+//! The starts of ranges with their indexes.
 ghost use Rattle.std.specs.Prelude.{◌≡◌, ℕ, ◌+◌, ◌^◌, ◌<◌, ◌≤◌, Some, IfOk, IfSome, length, slice_get};
 ghost use Rattle.range_search.specs.Bisect.{IsLast};
 

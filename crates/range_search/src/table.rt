@@ -1,3 +1,4 @@
+//! The module of sorted ranges.
 ghost use Rattle.std.specs.Prelude.{◌≡◌, ◌≢◌, length, Ok, OnOk};
 ghost use Rattle.std.specs.Map.{keys_of};
 ghost use Rattle.module_trait.specs.Rows.{AreBlocks, IsAscending};

@@ -1,3 +1,4 @@
+//! Lookups beside a scan, and the verdicts.
 ghost use Rattle.std.specs.Prelude.{◌≡◌, ◌<◌, ◌≤◌, IfOk, OnOk};
 ghost use Rattle.module_trait.specs.Rows.{HaveIndexes};
 

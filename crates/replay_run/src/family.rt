@@ -1,3 +1,4 @@
+//! The replay of one family's commands.
 ghost use Rattle.std.specs.Prelude.{◌≡◌, ℕ, ◌+◌, ◌<◌, ◌≤◌, true, IfOk, OnOk, OnErr, length, Some};
 ghost use Rattle.std.specs.Arc.{arc_value};
 ghost use Rattle.prefix_width.specs.Limits.{AreBanks, AreTargets};

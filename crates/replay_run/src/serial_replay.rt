@@ -1,3 +1,4 @@
+//! A script is replayed on one thread.
 ghost use Rattle.std.specs.Prelude.{◌≡◌, ◌++◌, ◌+◌, ◌<◌, IfOk, OnOk, [], length, drop};
 ghost use Rattle.route_lang.specs.Script.{Reading};
 ghost use Rattle.replay_run.specs.Family.{IsNext};

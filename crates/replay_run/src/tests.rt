@@ -1,3 +1,4 @@
+//! Worked scripts with their outputs.
 use crate::output::{write_fib, write_reply};
 use crate::{check_text, gen_text, serial, show_text};
 use prefix_width::Kind;

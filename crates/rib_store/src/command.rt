@@ -1,3 +1,4 @@
+//! Commands and their replies.
 use prefix_width::{Addr, Kind, Nexthop, Path, Prefix, Setting};
 
 /// What is asked of the table. `Add`, `Change`, `Delete` and `Flush` are the requests of

@@ -1,3 +1,4 @@
+//! How often nexthops and groups are used by routes.
 ghost use Rattle.std.specs.Prelude.{◌≡◌, ℕ, ◌+◌, ◌-◌, ◌<◌, ◌≤◌, ◌^◌, [], length, OnOk, OnErr, ◌++◌};
 ghost use Rattle.rib_store.specs.Targets.{ones, manies};
 ghost use Rattle.prefix_width.specs.Nexthop.{Hop};

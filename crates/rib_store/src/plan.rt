@@ -1,3 +1,4 @@
+//! The commands of a family.
 ghost use Rattle.std.specs.Prelude.{◌≡◌, ◌-◌, ◌<◌, ◌≤◌, ◌↔◌, All, OnOk, OnErr, IsErrOf, IsSome, Contains, [], length, slice_get, Some};
 ghost use Rattle.rib_store.specs.Limits.{plan_max};
 ghost use Rattle.rib_store.specs.Plan.{IsWrongModule, IsNumbering, named, firsts, number_of, plan_with, with_first};

@@ -1,3 +1,4 @@
+//! Plans, by hand.
 use crate::{Command, Plan, PushError};
 use prefix_width::{Addr, Kind, Nexthop, Path, Prefix, Setting};
 use std::test::Fail;

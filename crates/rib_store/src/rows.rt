@@ -1,3 +1,4 @@
+//! A copy of the table's rows, and the scan.
 ghost use Rattle.std.specs.Prelude.{◌≡◌, ◌≤◌, [], length, IfOk, option_copied};
 ghost use Rattle.prefix_width.specs.Longest.{longest, longer, only_if_in};
 ghost use Rattle.rib_store.specs.Answer.{answer};

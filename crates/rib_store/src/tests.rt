@@ -1,3 +1,4 @@
+//! Commands with their replies and tables, by hand.
 use crate::{Command, Refusal, Reply, Rib, Rows};
 use nhgrp_slots::Target;
 use prefix_width::{Addr, Nexthop, Path, Prefix};

@@ -1,3 +1,4 @@
+//! What a command line comes to.
 ghost use Rattle.std.specs.Prelude.{◌≡◌, IfSome};
 ghost use Rattle.command_line.specs.Words.{IsBetween};
 ghost use Rattle.route_cli.specs.Result.{FitsTask};

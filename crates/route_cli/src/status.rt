@@ -1,3 +1,4 @@
+//! How a run ends, and its text.
 ghost use Rattle.std.specs.Prelude.{◌≡◌, IfOk, string_bytes};
 ghost use Rattle.route_cli.specs.Status.{code_of, fault_line};
 

@@ -1,3 +1,4 @@
+//! Worked scripts through the top call.
 use crate::{Job, Status, fault_text, plain, run};
 use outside_io::{MemSink, MemSource};
 use replay_run::OpenGate;

@@ -1,3 +1,4 @@
+//! The top call: from words and bytes to bytes and a status.
 ghost use Rattle.std.specs.Prelude.{◌≡◌, ◌≢◌, ◌≤◌, ◌⊎◌, true, false, None, IfOk, IsErrOf, length, map, string_bytes};
 ghost use Rattle.outside_io.specs.Faults.{Rose};
 ghost use Rattle.outside_io.specs.Whole.{ReadsPast, ReadsWithin};
