@@ -7,7 +7,7 @@ use Rattle.std.specs.declared.cmp.Ordering.TheVariants.{Less, Equal, Greater}
 use Rattle.std.specs.Map.{remove_entry}
 use Rattle.std.specs.BTreeMap.{insert_entry, is_at}
 use Rattle.std.specs.Ordering.{match_ordering}
-use Rattle.std.proofs.lemmas.Bool.{cases_Bool, cases_lt, eq-eqb}
+use Rattle.std.proofs.lemmas.Bool.{cases_Bool, cases_eq, cases_lt, eq-eqb}
 use Rattle.std.proofs.lemmas.List.{map-append, take_more}
 use Rattle.std.proofs.lemmas.Nat.{pow_pos}
 use Rattle.prefix_width.specs.Prefix.{Block, IsBlock, contains, last_of, masked_block}
@@ -21,11 +21,12 @@ use Rattle.module_trait.proofs.BeforeLemmas.{in-right}
 use Rattle.module_trait.specs.View.{with_row}
 use Rattle.module_trait.proofs.KeyLemmas.{at_is, block_exact}
 use Rattle.dxr_chunks.specs.declared.made.Made.{Made}
-use Rattle.dxr_chunks.specs.Chunk.{IsMade}
-use Rattle.dxr_chunks.specs.Fragments.{AreFragments, index_in}
+use Rattle.dxr_chunks.specs.declared.made.Made.TheVariants.{Index, Fragments}
+use Rattle.dxr_chunks.specs.Chunk.{AreMade, AreRest, IsMade}
+use Rattle.dxr_chunks.specs.Fragments.{AreFragments, IsDirect, index_in}
 use Rattle.dxr_chunks.specs.Making.{AddsRun}
 use Rattle.dxr_chunks.specs.Touch.{IsTouched, Touches}
-use Rattle.dxr_chunks.proofs.ApplyLemmas.{made_other}
+use Rattle.dxr_chunks.proofs.ApplyLemmas.{made_other, made_push}
 use Rattle.dxr_chunks.proofs.CellLemmas.{first_cell, up_cells}
 use Rattle.dxr_chunks.proofs.RunLemmas.{cells_answer}
 
@@ -104,13 +105,44 @@ pub in_left : (xs ys : List ℕ) (t : ℕ) → IsIn t xs → IsIn t (xs ++ ys)
 in_left [] ys t is = absurd is
 in_left (x ∷ xs) ys t is = elim is [ inl e ↦ inl e | inr later ↦ inr (in_left xs ys t later) ]
 
-pub all_more : (news : List (ℕ × Made)) (k : ℕ) (made : Made) → ((j : ℕ) → j < k → IsIn j (keys_of news)) → (j : ℕ) → j < k + 1 → IsIn j (keys_of (news ++ (k, made) ∷ []))
-all_more news k made all j h =
-    let keys : keys_of (news ++ (k, made) ∷ []) ≡ keys_of news ++ k ∷ [] = map-append (λ e. e.0) news ((k, made) ∷ []) in
-    subst (IsIn j) (sym keys) (elim (cases_lt j k) [
-      | inl less ↦ in_left (keys_of news) (k ∷ []) j (all j less)
-      | inr ge ↦ in-right (keys_of news) (k ∷ []) j (inl (omega arith))
-    ])
+-- ---- chunks that have an index
+
+index_of_made : Made → ℕ
+index_of_made (Index i) = i
+index_of_made (Fragments run) = 1
+
+cases_none : (made : Made) → (made ≡ Index 0) ⊎ (made ≢ Index 0)
+unfolding index_of_made
+cases_none (Index i) = elim (cases_eq i 0) [ inl e ↦ inl (ap Index e) | inr other ↦ inr (λ e. other (ap index_of_made e)) ]
+cases_none (Fragments run) = inr (λ e. (let one : 1 ≡ 0 = ap index_of_made e in absurd (omega (arith, one))))
+
+module _ (answer : ℕ → ℕ) (k : ℕ) (made : Made) (old new : List (ℕ × Made)) (none : made ≡ Index 0 → new ≡ old) (some : made ≢ Index 0 → new ≡ old ++ (k, made) ∷ []) (here : IsMade answer k made) where
+  pub made_more : k < 2 ^ 16 → AreMade answer old → AreMade answer new
+  made_more fits all = elim (cases_none made) [
+    | inl e ↦ subst (λ (xs : List (ℕ × Made)). AreMade answer xs) (sym (none e)) all
+    | inr e ↦ subst (λ (xs : List (ℕ × Made)). AreMade answer xs) (sym (some e)) (made_push answer old (k, made) all fits here)
+  ]
+
+  rest_without : made ≡ Index 0 → AreRest answer k old → AreRest answer (k + 1) old
+  rest_without e rest = λ j h out. elim (cases_lt j k) [
+    | inl less ↦ rest j less out
+    | inr ge ↦ (let is : k ≡ j = omega (arith, h, ge) in subst (λ n. IsDirect answer n 0) is (subst (IsMade answer k) e here))
+  ]
+
+  rest_with : AreRest answer k old → AreRest answer (k + 1) (old ++ (k, made) ∷ [])
+  rest_with rest = λ j h out.
+      let keys : keys_of (old ++ (k, made) ∷ []) ≡ keys_of old ++ k ∷ [] = map-append (λ e. e.0) old ((k, made) ∷ []) in
+      let apart : IsIn j (keys_of old ++ k ∷ []) → ⊥ = λ is. out (subst (IsIn j) (sym keys) is) in
+      elim (cases_lt j k) [
+        | inl less ↦ rest j less (λ is. apart (in_left (keys_of old) (k ∷ []) j is))
+        | inr ge ↦ absurd (apart (in-right (keys_of old) (k ∷ []) j (inl (omega (arith, h, ge)))))
+      ]
+
+  pub rest_more : AreRest answer k old → AreRest answer (k + 1) new
+  rest_more rest = elim (cases_none made) [
+    | inl e ↦ subst (AreRest answer (k + 1)) (sym (none e)) (rest_without e rest)
+    | inr e ↦ subst (AreRest answer (k + 1)) (sym (some e)) (rest_with rest)
+  ]
 
 pub keys_more : (news : List (ℕ × Made)) (made : Made) (chunks : List ℕ) (i : ℕ) → i < length chunks → keys_of news ≡ take i chunks → keys_of (news ++ (get_or chunks i 0, made) ∷ []) ≡ take (i + 1) chunks
 keys_more news made chunks i within keys =

@@ -65,7 +65,7 @@ same_answers edits view k x blocks fits out = ap (λ o. unwrap_or (index_of o) 0
 
 -- ---- a batch
 
-cases_in : (k : ℕ) (ks : List ℕ) → IsIn k ks ⊎ (IsIn k ks → ⊥)
+pub cases_in : (k : ℕ) (ks : List ℕ) → IsIn k ks ⊎ (IsIn k ks → ⊥)
 cases_in k [] = inr (λ is. is)
 cases_in k (x ∷ ks) = elim (cases_eq k x) [
   | inl e ↦ inl (inl e)

@@ -1,5 +1,7 @@
 -- What a chunk has, in a table and when it is made.
 use Rattle.std.specs.Prelude.{◌≡◌, ℕ, ◌+◌, ◌^◌, ◌<◌, ◌≤◌, List, [], ◌∷◌, Option, Some, None, IsSome, length}
+use Rattle.std.specs.Map.{keys_of}
+use Rattle.module_trait.specs.Starts.{IsIn}
 use Rattle.dxr_chunks.specs.declared.cell.Cell.{Cell}
 use Rattle.dxr_chunks.specs.declared.cell.Cell.TheVariants.{Direct, Run}
 use Rattle.dxr_chunks.specs.declared.made.Made.{Made}
@@ -26,6 +28,10 @@ IsMade answer k (Fragments run) = (2 ≤ length run) × AreFragments answer k ru
 abbrev pub AreMade : (ℕ → ℕ) → List (ℕ × Made) → Type 0
 AreMade answer [] = Unit {0}
 AreMade answer (new ∷ news) = (new.0 < 2 ^ 16) × IsMade answer new.0 new.1 × AreMade answer news
+
+-- those of the first n chunks that aren't among them are without an index
+abbrev pub AreRest : (ℕ → ℕ) → ℕ → List (ℕ × Made) → Type 0
+AreRest answer n news = (k : ℕ) → k < n → (IsIn k (keys_of news) → ⊥) → IsDirect answer k 0
 
 -- a run has two fragments or more
 abbrev pub HasTwo : Made → Type 0

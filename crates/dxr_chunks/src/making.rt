@@ -1,11 +1,11 @@
 //! Chunks are made from the rows of a view.
-ghost use Rattle.std.specs.Prelude.{◌≡◌, ℕ, ◌+◌, ◌*◌, ◌^◌, ◌<◌, ◌≤◌, ◌++◌, Some, IfOk, slice_get};
+ghost use Rattle.std.specs.Prelude.{◌≡◌, ◌≢◌, [], ◌∷◌, ℕ, ◌+◌, ◌*◌, ◌^◌, ◌<◌, ◌≤◌, ◌++◌, Some, IfOk, OnOk, slice_get};
 ghost use Rattle.std.specs.List.{AllByRecursion};
 ghost use Rattle.std.specs.Map.{keys_of};
 ghost use Rattle.std.specs.Option.{option_to_list};
 ghost use Rattle.module_trait.specs.Rows.{AreBlocks, IsAscending};
-ghost use Rattle.module_trait.specs.Starts.{IsIn, IsUp, index_at};
-ghost use Rattle.dxr_chunks.specs.Chunk.{AreMade, IsMade};
+ghost use Rattle.module_trait.specs.Starts.{IsUp, index_at};
+ghost use Rattle.dxr_chunks.specs.Chunk.{AreMade, AreRest, IsMade};
 ghost use Rattle.dxr_chunks.specs.Fragments.{AreFragments, index_in};
 ghost use Rattle.dxr_chunks.specs.Making.{ArePassed};
 
@@ -27,7 +27,22 @@ fn made_of(alloc: Global, run: &[(u16, u16)]) -> Result<Made, OutOfMemory>
     Ok(Made::Fragments(Run::new(alloc, run)?))
 }
 
-/// What every chunk has where they answer as cells do, in one walk over chunks and cells.
+/// Adds what a chunk has, unless that is no index.
+fn add_indexed(news: &mut Vec<(u32, Made)>, chunk: u32, made: Made) -> Result<(), OutOfMemory>
+    ensures none { made ≡ Made.Index 0 → OnOk result (news.new.items ≡ news.old.items) }
+    ensures some { made ≢ Made.Index 0 → OnOk result (news.new.items ≡ news.old.items ++ (chunk, made) ∷ []) }
+{
+    match made {
+        Made::Index(0) => Ok(()),
+        made => {
+            news.push((chunk, made))?;
+            Ok(())
+        }
+    }
+}
+
+/// What each chunk has that is not without an index everywhere, where all answer as cells do, in
+/// one walk over chunks and cells.
 pub(crate) fn make_all(
     alloc: Global,
     cells: &[(u128, u16)],
@@ -35,9 +50,9 @@ pub(crate) fn make_all(
     requires first { slice_get (keys_of cells.now) 0 ≡ Some 0 }
     requires ascending { IsUp (keys_of cells.now) }
     ensures made { IfOk result (λ news. AreMade (index_in cells.now) news.items) }
-    ensures all { IfOk result (λ news. (k : ℕ) → k < 2 ^ 16 → IsIn k (keys_of news.items)) }
+    ensures rest { IfOk result (λ news. AreRest (index_in cells.now) (2 ^ 16) news.items) }
 {
-    let mut news = Vec::with_capacity(alloc, CHUNKS as usize)?;
+    let mut news = Vec::new(alloc);
     let mut run = Vec::new(alloc);
     let mut passed = 0;
     for chunk in 0..CHUNKS {
@@ -45,7 +60,7 @@ pub(crate) fn make_all(
         run.clear();
         passed = add_run(&mut run, cells, begun, chunk)?;
         let made = made_of(alloc, run.as_slice())?;
-        news.push((chunk, made))?;
+        add_indexed(&mut news, chunk, made)?;
     }
     Ok(news)
 }

@@ -195,7 +195,7 @@ impl Module<32> for ChunkTable {
     ghost preference = { λ routes. preferred 32 routes Dxr };
 
     fn empty(alloc: Global) -> Result<Self, OutOfMemory> {
-        let store = store_of(alloc, &[(0, 0)])?;
+        let store = Store::new(alloc)?;
         let form = Boxed::new(alloc, Form::Working(store))?;
         let table = ChunkTable { form };
         Ok(table)

@@ -1,8 +1,6 @@
 -- The chunks so far are made.
-use Rattle.std.proofs.Common.{ℕ, ◌*◌, ◌^◌, ◌<◌}
-use Rattle.std.specs.Map.{keys_of}
-use Rattle.module_trait.specs.Starts.{IsIn}
-use Rattle.dxr_chunks.specs.Chunk.{AreMade}
+use Rattle.std.proofs.Common.{◌*◌, ◌^◌}
+use Rattle.dxr_chunks.specs.Chunk.{AreMade, AreRest}
 use Rattle.dxr_chunks.specs.Fragments.{index_in}
 use Rattle.dxr_chunks.specs.Making.{ArePassed}
 use Rattle.dxr_chunks.proofs.making.make_all.Given as goal
@@ -11,5 +9,5 @@ abbrev pub invariant-loop-chunk : goal.invariant-loop-chunk
 invariant-loop-chunk l = record {
   passed : ArePassed l.cells (l.chunk * 2 ^ 16) l.passed;
   made : AreMade (index_in l.cells) l.news.items;
-  all : (k : ℕ) → k < l.chunk → IsIn k (keys_of l.news.items);
+  rest : AreRest (index_in l.cells) l.chunk l.news.items;
 }
