@@ -49,7 +49,11 @@ fn publish<const W: u32, R: Wait>(
 
 impl<const W: u32, N: Naming<W>> Producer<W, N> {
     /// Makes the next version and publishes it. Whether there was one.
-    fn go_on<R: Threads + Wait + Sync>(&mut self, rt: &R, alloc: Global) -> Result<bool, OutOfMemory>
+    fn go_on<R: Threads + Wait + Sync>(
+        &mut self,
+        rt: &R,
+        alloc: Global,
+    ) -> Result<bool, OutOfMemory>
         requires { IsAbreast banks targets_max N.table N.plan N.readers self.old.control self.old.publisher }
         ensures { IfOk result (GoesOn banks targets_max N.table N.plan N.readers self.old.control self.new.control self.new.publisher) }
     {
