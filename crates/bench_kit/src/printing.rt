@@ -1,6 +1,7 @@
 //! Prints, and the end of a program.
 ghost use Rattle.std.specs.Prelude.{◌≡◌, ◌+◌, ◌*◌, ◌-◌, ◌/◌, ◌^◌, ◌≤◌, IfErr, min, max};
-ghost use Rattle.bench_kit.specs.Fault.{IsPrintFault};
+ghost use Rattle.std.specs.Process.{exit_status};
+ghost use Rattle.bench_kit.specs.Fault.{IsPrintFault, status_of};
 
 use crate::fault::Fault;
 use std::io;
@@ -19,7 +20,9 @@ pub fn printed(outcome: io::Result<()>) -> Result<(), Fault>
 
 /// Ends a program: a fault is told on standard error, and gives the exit status. The words are
 /// those that the program takes, as its usage shows them.
-pub fn end<R: Eprint>(rt: &R, program: &str, words: &str, outcome: Result<(), Fault>) -> ExitCode {
+pub fn end<R: Eprint>(rt: &R, program: &str, words: &str, outcome: Result<(), Fault>) -> ExitCode
+    ensures { exit_status result ≡ status_of outcome }
+{
     let fault = match outcome {
         Ok(()) => return ExitCode::from(0),
         Err(fault) => fault,
