@@ -100,10 +100,10 @@ impl<Q, T: Lawful<Q> + Drop, const K: u64, const LIVE: u32> ControlSeat<Q, T, K,
         }
     }
 
-    /// Takes all the readers' seats in, and answers the version that was published last and how many
-    /// hits the readers made at each number. So each reader is outside for good, and no seat is left
-    /// that could enter or make a hit. Where there are fewer seats than readers, all come back, and
-    /// so they do for want of memory.
+    /// Takes all the readers' seats in, and answers the version that was published last and how
+    /// many hits the readers made at each number. So each reader is outside for good, and no seat
+    /// is left that could enter or make a hit. Where there are fewer seats than readers, all come
+    /// back, and so they do for want of memory. All seats are of this table.
     pub fn close(
         self,
         alloc: Global,

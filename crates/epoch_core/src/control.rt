@@ -173,7 +173,9 @@ impl<Q, T: Lawful<Q> + Drop, const K: u64, const LIVE: u32> ControlSeat<Q, T, K,
     /// Scans the readers that aren't passed, in order. Where none holds the next version up, gives
     /// the words of the fresh indexes to their numbers, puts the copies into the readers' places,
     /// publishes, and answers the new version. Else the readers passed stay passed, no index word
-    /// is touched, and the copies come back.
+    /// is touched, and the copies come back. There is a copy for each reader, lawful for that
+    /// version, and the fresh pairs are those of [`Control::prepare`] for it. The version before is
+    /// below 4,294,967,295.
     pub fn try_place(&mut self, copies: Copies<T, K, LIVE>) -> Result<u64, Held<T, K, LIVE>>
         requires count { length copies.values ≡ self.old.own.readers }
         requires lawful { All (λ c. T.is_lawful self.old.key (self.old.own.version + 1) c) copies.values }

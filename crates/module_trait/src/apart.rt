@@ -39,7 +39,7 @@ fn run_with<T: Counting, L: Ledger>(
     Ok(())
 }
 
-/// Does the work with a counter of its own.
+/// Does the work with a counter of its own. The work is ready for it.
 pub fn run_apart<T: Counting>(work: &mut T, alloc: Global) -> Result<(), OutOfMemory>
     requires ready { T.ready work.old }
     ensures ok { OnOk result (T.leaves work.old work.new) }

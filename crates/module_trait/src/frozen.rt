@@ -52,7 +52,7 @@ impl<T, const PAGE: usize> NodeReads for FrozenNodes<T, PAGE> {
 }
 
 impl<T, const PAGE: usize> FrozenNodes<T, PAGE> {
-    /// No node at all.
+    /// No node at all. A page has room for one node at least.
     pub fn new(alloc: Global) -> FrozenNodes<T, PAGE>
         requires { 0 < PAGE }
         ensures nodes { (key : ℕ) → frozen_at PAGE result key ≡ None }
@@ -86,7 +86,8 @@ impl<T: Drop, const PAGE: usize> FrozenNodes<T, PAGE> {
 }
 
 impl<T: Clone + Drop, const PAGE: usize> FrozenNodes<T, PAGE> {
-    /// A store with the same nodes at the same keys, which may be written to.
+    /// A store with the same nodes at the same keys, which may be written to. A clone of a node is
+    /// that node.
     pub fn thaw(&self, alloc: Global) -> Result<Nodes<T, PAGE>, OutOfMemory>
         requires { IsExact T.is_clone }
         ensures same { IfOk result (λ nodes. (key : ℕ) → node_at nodes.slots key ≡ frozen_at PAGE self.now key) }

@@ -61,7 +61,7 @@ impl<T, const PAGE: usize> Nodes<T, PAGE> {
 }
 
 impl<T: Drop, const PAGE: usize> Nodes<T, PAGE> {
-    /// No node at all, and no room.
+    /// No node at all, and no room. A page has room for one node at least.
     pub fn new(alloc: Global) -> Nodes<T, PAGE>
         requires { 0 < PAGE }
         ensures slots { result.slots ≡ [] }
@@ -98,7 +98,8 @@ impl<T: Drop, const PAGE: usize> Nodes<T, PAGE> {
         Ok(())
     }
 
-    /// Puts a node at a vacant key, which is the answer. It takes no memory.
+    /// Puts a node at a vacant key, which is the answer. It takes no memory. Room for one more was
+    /// reserved.
     pub fn put(&mut self, node: T) -> usize
         requires { 1 ≤ self.old.spare }
         ensures vacant { node_at self.old.slots result ≡ None }
@@ -150,7 +151,8 @@ impl<T, const PAGE: usize> NodeReads for Nodes<T, PAGE> {
 }
 
 impl<T: Clone + Drop, const PAGE: usize> Nodes<T, PAGE> {
-    /// Makes the pages that were written to anew, so that copies share all of them.
+    /// Makes the pages that were written to anew, so that copies share all of them. A clone of a
+    /// node is that node.
     pub fn settle(&mut self, alloc: Global) -> Result<(), OutOfMemory>
         requires { IsExact T.is_clone }
         ensures slots { self.new.slots ≡ self.old.slots }
@@ -162,7 +164,8 @@ impl<T: Clone + Drop, const PAGE: usize> Nodes<T, PAGE> {
     }
 
     /// A frozen copy: the same nodes at the same keys. It shares each page that was not written to
-    /// since [`Nodes::settle`], and makes the others for this copy alone.
+    /// since [`Nodes::settle`], and makes the others for this copy alone. A clone of a node is that
+    /// node.
     pub fn copy(&self, alloc: Global) -> Result<FrozenNodes<T, PAGE>, OutOfMemory>
         requires { IsExact T.is_clone }
         ensures same { IfOk result (λ frozen. (key : ℕ) → frozen_at PAGE frozen key ≡ node_at self.now.slots key) }

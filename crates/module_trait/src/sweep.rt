@@ -13,7 +13,8 @@ use std::collections::VecDeque;
 
 /// The cells of rows, in one sweep over them: a cell is a start, and the index of the longest row
 /// from there on, 0 for none. A row's two starts are placed when the sweep comes to its first
-/// address, and each cell is passed once, so the time grows as the number of rows.
+/// address, and each cell is passed once, so the time grows as the number of rows. The rows ascend
+/// by prefix.
 pub fn cells_of<const W: u32>(
     alloc: Global,
     rows: &[(Prefix<W>, u16)],

@@ -47,7 +47,8 @@ impl<const W: u32, const K: u64, const LIVE: u32> IndexBook<W, K, LIVE> {
     ghost use Rattle.nhop_index.specs.Indexes.{next_names, fresh_in};
     ghost use Rattle.nhop_index.specs.Book.{Remembers, AreIndexes};
 
-    /// A book that has given no version.
+    /// A book that has given no version. There are 2 to 8 banks, and room for 1 to 4,095 live
+    /// targets.
     pub fn new(alloc: Global) -> IndexBook<W, K, LIVE>
         requires banks { AreBanks K }
         requires targets { AreTargets LIVE }
@@ -60,7 +61,7 @@ impl<const W: u32, const K: u64, const LIVE: u32> IndexBook<W, K, LIVE> {
     }
 
     /// The indexes of the next version, which has these live targets, in their order and each once.
-    /// An error leaves the book as it was.
+    /// An error leaves the book as it was. There are no more of them than there is room for.
     pub fn next(
         &mut self,
         alloc: Global,

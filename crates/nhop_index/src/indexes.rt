@@ -68,7 +68,7 @@ impl<const W: u32, const K: u64, const LIVE: u32> Indexes<W, K, LIVE> {
         self.table.len()
     }
 
-    /// The index that `i` others are below, with its target.
+    /// The index that `i` others are below, with its target. `i` is below their number.
     pub fn entry(&self, i: u16) -> (u16, &Target<W>)
         requires { i < length (by_index self.now.names) }
         ensures { slice_get (by_index self.now.names) i ≡ Some (result.0, result.1.now) }

@@ -22,7 +22,8 @@ pub struct MemSource {
 impl MemSource {
     ghost use Rattle.outside_io.specs.Memory.{left_of, source_faults, source_calls, source_manner};
 
-    /// A source of these bytes, which fails at the calls numbered in `fails`, counted from 1.
+    /// A source of these bytes, which fails at the calls numbered in `fails`, counted from 1. A
+    /// call moves at most `piece` bytes, 1 or more.
     pub fn new(bytes: Vec<u8>, piece: usize, fails: Vec<u32>) -> Self
         requires { 0 < piece }
         ensures left { left_of result ≡ Some bytes.items }
@@ -112,7 +113,8 @@ impl MemSink {
     ghost use Rattle.outside_io.specs.Memory.{written_of, room_of, sink_faults, sink_calls, sink_manner};
 
     /// An empty sink, which fails at the calls numbered in `fails`, counted from 1. The memory for
-    /// all its room is taken here, so that a write takes none.
+    /// all its room is taken here, so that a write takes none. A call moves at most `piece` bytes,
+    /// 1 or more.
     pub fn new(
         alloc: Global,
         room: usize,

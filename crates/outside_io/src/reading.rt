@@ -33,8 +33,8 @@ impl From<AllocError> for ReadError {
     }
 }
 
-/// All the bytes of the source, if there are no more than `limit`. Reading stops at the first
-/// byte past the limit, which is taken from the source too.
+/// All the bytes of the source, if there are no more than `limit`. Reading stops at the first byte
+/// past the limit, which is taken from the source too. `limit` is below 2^64 - 1.
 pub fn read_all<S: Source>(
     alloc: Global,
     source: &mut S,

@@ -65,8 +65,9 @@ impl Cutter {
 
     /// Counts a command and says whether a version is cut behind it.
     ///
-    /// `changed` says that the command was an accepted change, and `differs` that the module
-    /// chosen now differs from that of the current version; only an `Algo` asks the second.
+    /// `changed` says that the command was an accepted change, and `differs` that the module chosen
+    /// now differs from that of the current version; only an `Algo` asks the second. The moment is
+    /// below 2^52 milliseconds, and fewer than 1,048,576 commands were counted and wait.
     pub fn step<const W: u32>(&mut self, changed: bool, command: &Command<W>, differs: bool) -> Cut
         requires early { self.old.moment < 2 ^ 52 }
         requires few { self.old.count < 1048576 }

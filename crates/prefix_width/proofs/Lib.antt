@@ -1,3 +1,4 @@
+pub mod AgreeLemmas
 pub mod LongestLemmas
 pub mod OrderLemmas
 pub mod PrefixLemmas

@@ -1,6 +1,6 @@
 -- Prefixes nest or share no address, and those that contain one address are ordered by length.
 use Rattle.std.proofs.Common.{◌≡◌, ℕ, ◌+◌, ◌-◌, ◌*◌, ◌/◌, ◌%◌, ◌^◌, ◌<◌, ◌≤◌, IsTrue, sym, ◌∙◌, ap, arith, inl, inr}
-use Rattle.std.proofs.Math.Nat.{pow-le-pow_right, div-eq_of_lt}
+use Rattle.std.proofs.Math.Nat.{pow-le-pow_right}
 use Rattle.std.proofs.lemmas.Nat.{shr-shr, shr_split, shr_below, row_fits, pow-add, pow_pos}
 use Rattle.std.proofs.lemmas.Bool.{cases_lt, cases_Bool}
 use Rattle.std.proofs.lemmas.Bool.Decides.{nat_tests}
@@ -78,14 +78,3 @@ last_fits w p v h i x y =
     let e : p.base + (2 ^ (w - p.len) - 1) < 2 ^ w = filled_below w (w - p.len) p.base (omega arith) i.3 i.4 in
     let f : 2 ^ w ≤ 2 ^ 128 = pow-le-pow_right (omega arith) i.1 in
     (omega arith, omega arith)
-
--- addresses differ in some bit only past the first none
-pub differ_later : (w n a b x y : ℕ) → a < 2 ^ w → b < 2 ^ w → x ≡ head_of w n a → y ≡ head_of w n b → (x ≡ y → ⊥) → 1 ≤ n
-differ_later w n a b x y p q i j h = elim (cases_lt 0 n) [
-  | inl later ↦ later
-  | inr none ↦
-      let z : w - n ≡ w = omega arith in
-      let ea : head_of w n a ≡ 0 = ap (λ m. a / 2 ^ m) z ∙ div-eq_of_lt p in
-      let eb : head_of w n b ≡ 0 = ap (λ m. b / 2 ^ m) z ∙ div-eq_of_lt q in
-      absurd (h (i ∙ ea ∙ sym (j ∙ eb)))
-]

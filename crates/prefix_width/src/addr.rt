@@ -22,7 +22,8 @@ impl<const W: u32> Model for Addr<W> {
 }
 
 impl<const W: u32> Addr<W> {
-    /// The address of a number. `None` where the number needs more than `W` bits.
+    /// The address of a number. `None` where the number needs more than `W` bits. `W` is from 1 to
+    /// 128.
     pub fn new(value: u128) -> Option<Addr<W>>
         requires { (1 ≤ W) × (W ≤ 128) }
         ensures { SomeIff result (value < 2 ^ W) value }
@@ -34,7 +35,7 @@ impl<const W: u32> Addr<W> {
         }
     }
 
-    /// The greatest address, all of whose bits are set.
+    /// The greatest address, all of whose bits are set. `W` is from 1 to 128.
     pub fn greatest() -> Addr<W>
         requires { (1 ≤ W) × (W ≤ 128) }
         ensures { result ≡ 2 ^ W - 1 }
@@ -57,7 +58,7 @@ impl<const W: u32> Addr<W> {
         self.value
     }
 
-    /// The bit at a place, counted from the leading one, which is at 0.
+    /// The bit at a place, counted from the leading one, which is at 0. The place is below `W`.
     pub fn bit(&self, i: u8) -> bool
         requires { i < W }
         ensures { result ≡ bit_of W i self.now }

@@ -111,7 +111,8 @@ impl<const W: u32> Nexthop<W> {
         }
     }
 
-    /// To the destination itself, on an interface. `None` where the interface is 0.
+    /// To the destination itself, on an interface. `None` where the interface is 0. `W` is from 1
+    /// to 128.
     pub fn direct(iface: u16, mtu: u32) -> Option<Nexthop<W>>
         requires { (1 ≤ W) × (W ≤ 128) }
         ensures { SomeIff result (1 ≤ iface) (record { kind = Direct; gateway = 0; iface = iface; mtu = mtu }) }
@@ -127,7 +128,7 @@ impl<const W: u32> Nexthop<W> {
         })
     }
 
-    /// Dropped without a word.
+    /// Dropped without a word. `W` is from 1 to 128.
     pub fn blackhole() -> Nexthop<W>
         requires { (1 ≤ W) × (W ≤ 128) }
         ensures { result ≡ record { kind = Blackhole; gateway = 0; iface = 0; mtu = 0 } }
@@ -140,7 +141,7 @@ impl<const W: u32> Nexthop<W> {
         }
     }
 
-    /// Dropped with an error to the sender.
+    /// Dropped with an error to the sender. `W` is from 1 to 128.
     pub fn reject() -> Nexthop<W>
         requires { (1 ≤ W) × (W ≤ 128) }
         ensures { result ≡ record { kind = Reject; gateway = 0; iface = 0; mtu = 0 } }

@@ -1,5 +1,5 @@
 //! Prefixes.
-ghost use Rattle.std.specs.Prelude.{◌≡◌, ◌+◌, ◌-◌, ◌*◌, ◌^◌, ◌<◌, ◌≤◌};
+ghost use Rattle.std.specs.Prelude.{◌≡◌, ℕ, ◌+◌, ◌-◌, ◌*◌, ◌^◌, ◌<◌, ◌≤◌, ◌↔◌};
 ghost use Rattle.std.specs.Option.{SomeIff};
 ghost use Rattle.prefix_width.specs.Prefix.{Block, IsBlock, IsCommonLen, head_of, masked_block, contains, covers, last_of};
 
@@ -89,12 +89,8 @@ impl<const W: u32> Prefix<W> {
     pub fn common_len(&self, other: &Prefix<W>) -> u8
         ensures { IsCommonLen W self.now other.now result }
     {
-        let (here, there) = (self.addr.value(), other.addr.value());
-        let mut n = self.len.min(other.len);
-        while head::<W>(here, n) != head::<W>(there, n) {
-            n -= 1;
-        }
-        n
+        let shared = shared_bits::<W>(self.addr.value(), other.addr.value());
+        self.len.min(other.len).min(shared)
     }
 }
 
@@ -107,6 +103,17 @@ fn head<const W: u32>(value: u128, len: u8) -> u128
 {
     let bits = W - u32::from(len);
     if bits == 128 { 0 } else { value >> bits }
+}
+
+/// How many leading bits two addresses share.
+fn shared_bits<const W: u32>(here: u128, there: u128) -> u8
+    requires most { W ≤ 128 }
+    requires here { here < 2 ^ W }
+    requires there { there < 2 ^ W }
+    ensures { (n : ℕ) → n ≤ W → (n ≤ result) ↔ (head_of W n here ≡ head_of W n there) }
+{
+    let zeros = (here ^ there).leading_zeros();
+    (zeros - (128 - W)) as u8
 }
 
 /// The address with the bits behind the first `len` cleared.

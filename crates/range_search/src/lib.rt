@@ -4,6 +4,7 @@
 
 mod bisect;
 mod compare;
+mod has_start;
 mod start;
 mod start_cells;
 mod table;

@@ -1,12 +1,13 @@
 //! The module of sorted ranges.
-ghost use Rattle.std.specs.Prelude.{◌≡◌, ◌≢◌, length, Ok, OnOk};
+ghost use Rattle.std.specs.Prelude.{◌≡◌, ◌≢◌, length, Ok, OnOk, IfOk, IsTrue, IsSome};
 ghost use Rattle.std.specs.Map.{keys_of};
 ghost use Rattle.module_trait.specs.Rows.{AreBlocks, IsAscending};
-ghost use Rattle.module_trait.specs.Starts.{AreRight, starts_of};
+ghost use Rattle.module_trait.specs.Starts.{AreRight, IsIn, IsUp, starts_of};
 ghost use Rattle.range_search.specs.Range.{IsRangeOf, IsDigits, IsRangeVerdict};
 
 use crate::OutOfMemory;
 use crate::compare::same_starts;
+use crate::has_start::has_start;
 use crate::start_cells::StartCells;
 use module_trait::{Edit, Module, RouteView, Steps, Verdict, cells_of, read_edits};
 use prefix_width::{Addr, Prefix};
@@ -42,6 +43,21 @@ impl<const W: u32> RangeTable<W> {
         }
         self.cells = StartCells::new(alloc, cells)?;
         Ok(Verdict::Done)
+    }
+}
+
+impl<const W: u32> RangeTable<W> {
+    /// Whether an edit puts a row where no cell begins, so that the starts move.
+    fn begins_anew(&self, alloc: Global, edit: &Edit<W>) -> Result<bool, OutOfMemory>
+        requires { IsUp (keys_of self.now.cells) }
+        ensures row { IfOk result (λ anew. IsTrue anew → IsSome edit.now.after) }
+        ensures start { IfOk result (λ anew. IsTrue anew → IsIn edit.now.prefix.base (keys_of self.now.cells) → ⊥) }
+    {
+        if edit.after().is_none() {
+            return Ok(false);
+        }
+        let has = has_start(alloc, &self.cells, edit.prefix().first().value())?;
+        Ok(!has)
     }
 }
 
@@ -90,6 +106,9 @@ impl<const W: u32> Module<W> for RangeTable<W> {
         view: &RouteView<W>,
     ) -> Result<Verdict, OutOfMemory> {
         let _after = edit.after();
+        if self.begins_anew(alloc, edit)? {
+            return Ok(Verdict::Rebuild);
+        }
         let rows = view.rows(alloc)?;
         self.take_over(alloc, rows.as_slice())
     }
@@ -101,6 +120,11 @@ impl<const W: u32> Module<W> for RangeTable<W> {
         view: &RouteView<W>,
     ) -> Result<Verdict, OutOfMemory> {
         read_edits(edits);
+        for edit in edits {
+            if self.begins_anew(alloc, edit)? {
+                return Ok(Verdict::Rebuild);
+            }
+        }
         let rows = view.rows(alloc)?;
         self.take_over(alloc, rows.as_slice())
     }
