@@ -245,6 +245,10 @@ module _ {K : Type 0} (cmp : K → K → Ordering) (o : IsTotalOrder cmp) where
   pub remove_ok : (m n : Counts K) (k : K) → n ≡ remove_entry (is_at (cmp k)) m → IsCounts cmp m → length m < 4294967296 → IsCounts cmp n × (length n < 4294967296)
   remove_ok m n k e is h = subst (λ x. IsCounts cmp x × (length x < 4294967296)) (sym e) (remove-counts m k is, let l = length-remove-le (is_at (cmp k)) m in omega arith)
 
+  -- where one use is left, one less removes the entry
+  pub last_unlinked : (m : Counts K) (k : K) → count_of cmp m k ≡ 1 → remove_entry (is_at (cmp k)) m ≡ unlinked cmp m k
+  last_unlinked m k e = sym (ap (λ (n : ℕ). cond (n == 1) (remove_entry (is_at (cmp k)) m) (set_value (is_at (cmp k)) m (count_of cmp m k - 1))) e)
+
   pub set_ok : (m n : Counts K) (k : K) (v : ℕ) → n ≡ set_value (is_at (cmp k)) m v → 1 ≤ v → IsCounts cmp m → length m < 4294967296 → IsCounts cmp n × (length n < 4294967296)
   set_ok m n k v e p is h = subst (λ x. IsCounts cmp x × (length x < 4294967296)) (sym e) (set-counts m k v p is, let l = length-set_value (is_at (cmp k)) m v in omega arith)
 

@@ -27,7 +27,7 @@ impl<K: Ord> Model for CountedMap<K> {
 }
 
 impl<K: Ord + Drop> CountedMap<K> {
-    ghost use Rattle.std.specs.Prelude.{◌≡◌, ◌≤◌, ◌<◌, ◌-◌, ◌^◌, ◌↔◌, [], length, IsTrue, OnOk, OnErr};
+    ghost use Rattle.std.specs.Prelude.{◌≡◌, ◌≤◌, ◌<◌, ◌-◌, ◌^◌, ◌↔◌, ◌==◌, [], length, IsTrue, OnOk, OnErr};
     ghost use Rattle.std.specs.Bool.{OnTrue, OnFalse};
     ghost use Rattle.counted_map.specs.Counts.{count_of, linked, unlinked, IsCounts};
 
@@ -55,7 +55,8 @@ impl<K: Ord + Drop> CountedMap<K> {
         self.counts.len() as u32
     }
 
-    /// Counts one more use of a key that is in use, and says whether it is. No memory is taken.
+    /// Counts one more use of a key that is in use, and says whether it is. No memory is taken. Its
+    /// count is below 2^32 - 1.
     pub fn increase(&mut self, key: &K) -> bool
         requires { count_of K.cmp self.old key.now < 2 ^ 32 - 1 }
         ensures found { IsTrue result ↔ (1 ≤ count_of K.cmp self.old key.now) }
@@ -69,7 +70,8 @@ impl<K: Ord + Drop> CountedMap<K> {
         true
     }
 
-    /// Counts the first use of a key. An error leaves the map as it was.
+    /// Counts the first use of a key. An error leaves the map as it was. The key is not in use, and
+    /// fewer than 2^32 - 1 keys are.
     pub fn insert(&mut self, key: K) -> Result<(), OutOfMemory>
         requires unused { count_of K.cmp self.old key ≡ 0 }
         requires room { length self.old < 2 ^ 32 - 1 }
@@ -80,15 +82,31 @@ impl<K: Ord + Drop> CountedMap<K> {
         Ok(())
     }
 
-    /// Counts one use of a key less, and drops its entry with the last. No memory is taken.
+    /// Counts one use of a key less, and drops its entry with the last. No memory is taken. The key
+    /// is in use.
     pub fn decrease(&mut self, key: &K)
         requires { 1 ≤ count_of K.cmp self.old key.now }
         ensures { self.new ≡ unlinked K.cmp self.old key.now }
     {
-        if self.count(key) == 1 {
-            self.counts.remove(key);
-        } else if let Some(count) = self.counts.get_mut(key) {
+        self.release(key);
+    }
+
+    /// Counts one use of a key less, drops its entry with the last, and says whether that was the
+    /// last. No memory is taken.
+    pub fn release(&mut self, key: &K) -> bool
+        requires { 1 ≤ count_of K.cmp self.old key.now }
+        ensures last { result ≡ (count_of K.cmp self.old key.now == 1) }
+        ensures less { self.new ≡ unlinked K.cmp self.old key.now }
+    {
+        let Some(count) = self.counts.get_mut(key) else {
+            unreachable!()
+        };
+        if *count > 1 {
             *count -= 1;
+            false
+        } else {
+            self.counts.remove(key);
+            true
         }
     }
 

@@ -1,4 +1,5 @@
 pub mod DivisorLemmas
+pub mod LayoutLemmas
 pub mod PathLemmas
 pub mod PathOrder
 pub mod SlotLemmas

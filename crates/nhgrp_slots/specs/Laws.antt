@@ -1,7 +1,9 @@
 -- Laws of slots.
-use Rattle.std.specs.Prelude.{◌≡◌, ℕ, ◌≤◌, ◌/◌, List, length, map, sum}
-use Rattle.nhgrp_slots.specs.PathList.{PathList}
-use Rattle.nhgrp_slots.specs.Slots.{HaveWeights, weights, gcd_of, size_of, shares_of, slots_of, HoldPicked}
+use Rattle.std.specs.Prelude.{◌≡◌, ℕ, ◌≤◌, ◌/◌, IsTrue, List, Some, length, map, sum}
+use Rattle.prefix_width.specs.Nexthop.{Hop}
+use Rattle.nhgrp_slots.specs.Layout.{IsLayout, kept_layout, layout_of, nexthop_in, pick_in}
+use Rattle.nhgrp_slots.specs.PathList.{PathList, names}
+use Rattle.nhgrp_slots.specs.Slots.{HaveWeights, weights, gcd_of, size_of, shares_of, slots_of, pick, HoldPicked}
 
 -- there are 1 to 64 slots, and the shares are all of them
 abbrev pub SharesAreAll : Type 0
@@ -26,3 +28,21 @@ abbrev pub SlotsHoldPicked : Type 0
 SlotsHoldPicked =
     (ps : PathList) (indexes : List ℕ) → HaveWeights ps → length indexes ≡ length ps
     → HoldPicked ps indexes (slots_of ps indexes)
+
+-- a slot whose nexthop is among the new paths holds it in the layout that is kept
+abbrev pub KeepsWhatStays : Type 0
+KeepsWhatStays =
+    (old : PathList) (layout : List ℕ) (new : PathList) (slot : ℕ) (h : Hop) → nexthop_in old layout slot ≡ Some h
+    → IsTrue (names h new) → nexthop_in new (kept_layout old layout new) slot ≡ Some h
+
+-- the layout that is kept has as many slots, and is one of the new paths
+abbrev pub KeptIsLayout : Type 0
+KeptIsLayout =
+    (old : PathList) (layout : List ℕ) (new : PathList) → HaveWeights new → IsLayout old layout
+    → (length (kept_layout old layout new) ≡ length layout) × IsLayout new (kept_layout old layout new)
+
+-- the layout that weights give is one of the paths, and picks for each flow what their slots pick
+abbrev pub LayoutIsOfPaths : Type 0
+LayoutIsOfPaths =
+    (ps : PathList) → HaveWeights ps
+    → IsLayout ps (layout_of ps) × ((flow : ℕ) → pick_in ps (layout_of ps) flow ≡ pick ps flow)

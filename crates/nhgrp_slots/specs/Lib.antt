@@ -1,4 +1,5 @@
 pub mod Laws
+pub mod Layout
 pub mod Order
 pub mod PathList
 pub mod PathStore

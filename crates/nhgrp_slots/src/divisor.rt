@@ -15,7 +15,8 @@ fn gcd(a: u32, b: u32) -> u32
     x
 }
 
-/// The greatest common divisor of the weights.
+/// The greatest common divisor of the weights. There is one path at least, and each weight is one
+/// that its path may have.
 pub fn common_divisor<const W: u32>(paths: &[Path<W>]) -> u32
     requires { HaveWeights paths.now }
     ensures value { result ≡ gcd_of (weights paths.now) }

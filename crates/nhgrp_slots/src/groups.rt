@@ -26,7 +26,8 @@ impl<const W: u32> Model for GroupTable<W> {
 }
 
 impl<const W: u32> GroupTable<W> {
-    ghost use Rattle.std.specs.Prelude.{◌≡◌, ◌-◌, ◌<◌, ◌≤◌, ◌^◌, [], length, All, OnOk, OnErr, IfOk, IsOk};
+    ghost use Rattle.std.specs.Prelude.{◌≡◌, ◌-◌, ◌<◌, ◌≤◌, ◌^◌, ◌==◌, ◌↔◌, [], length, All, IsTrue, OnOk, OnErr, IfOk, IsOk};
+    ghost use Rattle.std.specs.Bool.{OnTrue, OnFalse};
     ghost use Rattle.std.specs.Map.{keys_of};
     ghost use Rattle.counted_map.specs.Counts.{count_of, linked, unlinked, IsCounts};
     ghost use Rattle.nhgrp_slots.specs.Order.{paths_cmp};
@@ -42,7 +43,8 @@ impl<const W: u32> GroupTable<W> {
     }
 
     /// Counts one more use of the group. A copy is kept at its first use, and no other use takes
-    /// memory. An error leaves the table as it was.
+    /// memory. An error leaves the table as it was. The group has two paths or more and fewer than
+    /// 2^32 - 1 uses, and the table fewer than 2^32 - 1 groups.
     pub fn link(&mut self, alloc: Global, group: &Paths<W>) -> Result<(), OutOfMemory>
         requires several { 2 ≤ length group.now }
         requires count { count_of paths_cmp self.old group.now < 2 ^ 32 - 1 }
@@ -51,20 +53,54 @@ impl<const W: u32> GroupTable<W> {
         ensures again { 1 ≤ count_of paths_cmp self.old group.now → IsOk result }
         ensures err { OnErr result (self.new ≡ self.old) }
     {
-        if self.counts.increase(group) {
+        if self.increase(group) {
             return Ok(());
         }
+        self.insert(alloc, group)
+    }
+
+    /// Counts one more use of a group that is in use, and says whether it is. No memory is taken.
+    pub fn increase(&mut self, group: &Paths<W>) -> bool
+        requires several { 2 ≤ length group.now }
+        requires count { count_of paths_cmp self.old group.now < 2 ^ 32 - 1 }
+        ensures found { IsTrue result ↔ (1 ≤ count_of paths_cmp self.old group.now) }
+        ensures more { OnTrue result (self.new ≡ linked paths_cmp self.old group.now) }
+        ensures same { OnFalse result (self.new ≡ self.old) }
+    {
+        self.counts.increase(group)
+    }
+
+    /// Counts the first use of a group, of which a copy is kept. An error leaves the table as it
+    /// was.
+    pub fn insert(&mut self, alloc: Global, group: &Paths<W>) -> Result<(), OutOfMemory>
+        requires several { 2 ≤ length group.now }
+        requires unused { count_of paths_cmp self.old group.now ≡ 0 }
+        requires room { length self.old < 2 ^ 32 - 1 }
+        ensures ok { OnOk result (self.new ≡ linked paths_cmp self.old group.now) }
+        ensures err { OnErr result (self.new ≡ self.old) }
+    {
         let key = group.copy(alloc)?;
         self.counts.insert(key)?;
         Ok(())
     }
 
-    /// Counts one use of the group less, and drops it with the last. No memory is taken.
+    /// Counts one use of the group less, and drops it with the last. No memory is taken. The group
+    /// is in use.
     pub fn unlink(&mut self, group: &Paths<W>)
         requires { 1 ≤ count_of paths_cmp self.old group.now }
         ensures { self.new ≡ unlinked paths_cmp self.old group.now }
     {
-        self.counts.decrease(group);
+        self.release(group);
+    }
+
+    /// Counts one use of the group less, drops it with the last, and says whether that was the
+    /// last. No memory is taken.
+    pub fn release(&mut self, group: &Paths<W>) -> bool
+        requires { 1 ≤ count_of paths_cmp self.old group.now }
+        ensures last { result ≡ (count_of paths_cmp self.old group.now == 1) }
+        ensures less { self.new ≡ unlinked paths_cmp self.old group.now }
+    {
+        self.counts.release(group)
     }
 
     /// How often the group is used.

@@ -1,4 +1,4 @@
-ghost use Rattle.nhgrp_slots.specs.Laws.{SharesAreAll, SlotsAreFilled, SlotsHoldPicked, SmallSharesAreExact};
+ghost use Rattle.nhgrp_slots.specs.Laws.{KeepsWhatStays, KeptIsLayout, LayoutIsOfPaths, SharesAreAll, SlotsAreFilled, SlotsHoldPicked, SmallSharesAreExact};
 
 /// Law: there are 1 to 64 slots, and the shares are all of them.
 pub fn law_shares_are_all()
@@ -18,4 +18,19 @@ pub fn law_small_shares_are_exact()
 /// Law: a flow's slot holds the index of the path whose nexthop is picked for the flow.
 pub fn law_slots_hold_picked()
     ensures { SlotsHoldPicked }
+{}
+
+/// Law: a slot whose nexthop is among the new paths holds it in the layout that is kept.
+pub fn law_keep_moves_no_slot_that_stays()
+    ensures { KeepsWhatStays }
+{}
+
+/// Law: the layout that is kept has as many slots as before, and is one of the new paths.
+pub fn law_kept_is_layout()
+    ensures { KeptIsLayout }
+{}
+
+/// Law: the layout that weights give is one of the paths, and picks what their slots pick.
+pub fn law_layout_picks_as_slots()
+    ensures { LayoutIsOfPaths }
 {}

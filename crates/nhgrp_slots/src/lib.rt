@@ -5,6 +5,7 @@
 mod divisor;
 mod groups;
 mod laws;
+mod layouts;
 mod path_facts;
 mod paths;
 mod slots;
@@ -12,12 +13,16 @@ mod target;
 
 pub use groups::GroupTable;
 pub use laws::{
+    law_keep_moves_no_slot_that_stays, law_kept_is_layout, law_layout_picks_as_slots,
     law_shares_are_all, law_slots_are_filled, law_slots_hold_picked, law_small_shares_are_exact,
 };
+pub use layouts::{keep, layout};
 pub use paths::Paths;
 pub use slots::{Slots, compile, pick};
 pub use std::alloc::AllocError as OutOfMemory;
 pub use target::Target;
 
+#[cfg(test)]
+mod layout_tests;
 #[cfg(test)]
 mod tests;

@@ -49,13 +49,16 @@ impl<const W: u32> Paths<W> {
         })
     }
 
-    /// The list with one path more, before the first whose nexthop is greater.
+    /// The list with one path more, before the first whose nexthop is greater. The path may join
+    /// them, and they are fewer than 64.
     pub fn with(&self, alloc: Global, path: Path<W>) -> Result<Paths<W>, OutOfMemory>
         requires { IsPathList (put_path self.now path) }
         ensures { IfOk result (λ p. p ≡ put_path self.now path.entry) }
     {
         let place = self.place_of(&path);
-        let mut paths = Vec::from_slice(alloc, self.as_slice())?;
+        let present = self.as_slice();
+        let mut paths = Vec::with_capacity(alloc, present.len() + 1)?;
+        paths.extend_from_slice(present)?;
         paths.insert(place, path)?;
         Paths::kept(alloc, paths)
     }
@@ -64,7 +67,7 @@ impl<const W: u32> Paths<W> {
     pub fn without(&self, alloc: Global, gateway: &Addr<W>) -> Result<Option<Paths<W>>, OutOfMemory>
         ensures { IfOk result (λ p. p ≡ paths_left (left_by gateway.now self.now)) }
     {
-        let mut paths = Vec::new(alloc);
+        let mut paths = Vec::with_capacity(alloc, self.as_slice().len())?;
         for path in self.as_slice() {
             if !path_facts::goes_by(path, gateway) {
                 paths.push(*path)?;
@@ -97,7 +100,7 @@ impl<const W: u32> Paths<W> {
         self.as_slice().len() as u8
     }
 
-    /// The path at a place, counted from 0.
+    /// The path at a place, counted from 0. The place is below their number.
     pub fn path(&self, i: u8) -> &Path<W>
         requires { i < length self.now }
         ensures { slice_get self.now i ≡ Some result.now }

@@ -12,7 +12,7 @@ use std::marker::Model;
 use std::sync::Arc;
 
 /// The most slots of a group.
-const SLOTS_MAX: u32 = 64;
+pub(crate) const SLOTS_MAX: u32 = 64;
 
 /// A group's slots, seen as a list of 1 to 64 indexes. Copies share them.
 #[derive(Drop)]
@@ -47,7 +47,8 @@ impl Slots {
     pub fn pick(&self, flow: u32) -> u16
         ensures { slice_get self.now (flow % length self.now) ≡ Some result }
     {
-        self.indexes[flow as usize % self.indexes.len()]
+        let size = u32::from(self.size());
+        self.indexes[(flow % size) as usize]
     }
 
     /// Equal slots, shared with these: nothing is copied.
@@ -62,7 +63,7 @@ impl Slots {
 
 /// The slots of a group, where each path stands as its index. The group's size is the sum of the
 /// weights by their greatest common divisor, at most 64. Each path in turn gets its weight's part
-/// of the slots that are left, rounded down.
+/// of the slots that are left, rounded down. There are as many indexes as paths.
 pub fn compile<const W: u32>(
     alloc: Global,
     paths: &Paths<W>,
@@ -112,7 +113,7 @@ fn filled<const W: u32>(
 {
     let mut rem_sum = sum_of(paths);
     let mut rem_slots = (rem_sum / common_divisor(paths)).min(SLOTS_MAX);
-    let mut slots = Vec::new(alloc);
+    let mut slots = Vec::with_capacity(alloc, rem_slots as usize)?;
     for i in 0..paths.len() {
         let weight = paths[i].weight();
         let share = weight * rem_slots / rem_sum;
@@ -124,7 +125,7 @@ fn filled<const W: u32>(
 }
 
 /// The sum of the weights, and what each path knows of its weight.
-fn sum_of<const W: u32>(paths: &[Path<W>]) -> u32
+pub(crate) fn sum_of<const W: u32>(paths: &[Path<W>]) -> u32
     requires { length paths.now ≤ 64 }
     ensures value { result ≡ sum (weights paths.now) }
     ensures weights { All (λ p. IsWeight p.nexthop.kind p.weight) paths.now }

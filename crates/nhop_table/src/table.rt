@@ -35,8 +35,8 @@ impl<const W: u32> NhopTable<W> {
         }
     }
 
-    /// Counts one more use of the nexthop. An error leaves the table as it was, and comes only
-    /// at the first use.
+    /// Counts one more use of the nexthop. An error leaves the table as it was, and comes only at
+    /// the first use. It has fewer than 2^32 - 1 uses, and the table fewer than 2^32 - 1 nexthops.
     pub fn link(&mut self, nexthop: &Nexthop<W>) -> Result<(), OutOfMemory>
         requires count { count_of hop_cmp self.old nexthop.now < 2 ^ 32 - 1 }
         requires room { length self.old < 2 ^ 32 - 1 }
@@ -50,7 +50,8 @@ impl<const W: u32> NhopTable<W> {
         self.counts.insert(*nexthop)
     }
 
-    /// Counts one use of the nexthop less, and forgets it with the last. No memory is taken.
+    /// Counts one use of the nexthop less, and forgets it with the last. No memory is taken. The
+    /// nexthop is in use.
     pub fn unlink(&mut self, nexthop: &Nexthop<W>)
         requires { 1 ≤ count_of hop_cmp self.old nexthop.now }
         ensures { self.new ≡ unlinked hop_cmp self.old nexthop.now }

@@ -1,16 +1,18 @@
 -- What is live: the keys of the counts are the distinct nexthops and groups, and fewer paths leave no more of them.
-use Rattle.std.proofs.Common.{◌≡◌, ℕ, ◌+◌, ◌-◌, ◌≤◌, Option, Some, None, subst, List, [], ◌∷◌, length, Bool, true, false, cond, not, ◌&&◌, ◌||◌, refl, sym, ◌∙◌, ap, arith, nat_lt, filter, zero-add}
+use Rattle.std.proofs.Common.{◌≡◌, ℕ, ◌+◌, ◌-◌, ◌≤◌, ◌<◌, ◌==◌, Option, Some, None, subst, List, [], ◌∷◌, length, Bool, true, false, cond, not, ◌&&◌, ◌||◌, refl, sym, ◌∙◌, ap, arith, nat_lt, filter, zero-add}
 use Rattle.std.specs.Prelude.{count_by}
+use Rattle.std.specs.Bool.{OnTrue, OnFalse}
 use Rattle.std.specs.List.{list_any}
 use Rattle.std.specs.Ordering.{is_eq}
 use Rattle.std.specs.Cmp.{IsTotalOrder}
 use Rattle.std.specs.declared.cmp.Ordering.{Ordering}
-use Rattle.std.specs.Map.{keys_of, values_of}
+use Rattle.std.specs.Map.{keys_of, values_of, remove_entry, set_value}
 use Rattle.std.specs.BTreeMap.{is_at}
 use Rattle.std.proofs.lemmas.Bool.Decides.{nat_tests}
 use Rattle.std.proofs.lemmas.Cmp.{eq_by_cmp_equiv}
 use Rattle.std.proofs.lemmas.List.Folds.{list_any-append}
 use Rattle.std.proofs.lemmas.List.Sums.{sum_by-cons}
+use Rattle.std.proofs.lemmas.Map.{length-set_value}
 use Rattle.std.proofs.lemmas.Map.Entries.{length-keys_of}
 use Rattle.std.proofs.lemmas.Map.Keys.{IsDistinct-from_sorted}
 use Rattle.std.proofs.lemmas.Map.Lookups.{CmpEqualImpliesEq}
@@ -22,11 +24,11 @@ use Rattle.prefix_width.proofs.OrderLemmas.{hop_total, hop_exact}
 use Rattle.nhgrp_slots.specs.Order.{paths_cmp, paths_total}
 use Rattle.nhgrp_slots.specs.PathList.{hops, names, IsPathList}
 use Rattle.nhgrp_slots.proofs.PathOrder.{paths_exact}
-use Rattle.counted_map.specs.Counts.{distinct}
+use Rattle.counted_map.specs.Counts.{Counts, count_of, distinct, how_many, unlinked, unlinked_all}
 use Rattle.counted_map.proofs.CountMapLemmas.{keys_are_distinct, any-distinct, sorted-distinct}
 use Rattle.rib_store.specs.Live.{is_group, hops_of, live_hops, live_groups}
 use Rattle.rib_store.specs.Table.{Table, live_count}
-use Rattle.rib_store.specs.Uses.{Uses, live_in, grown, shrunk, with_paths, without_old, AreCounts, HasPaths, HasOld, IsCounted}
+use Rattle.rib_store.specs.Uses.{Uses, live_in, gained, lost, grown, shrunk, with_paths, without_old, AreCounts, HasPaths, HasOld, IsCounted}
 use Rattle.rib_store.proofs.CountedLemmas.{any-hops, AreCounts-with, live_in-with, live_in-without}
 
 any-count : {X : Type 0} (f : X → Bool) (xs : List X) → nat_lt 0 (count_by f xs) ≡ list_any f xs
@@ -100,6 +102,86 @@ after_some u new old o l g s e size more less are is js has =
     let h : HasPaths (with_paths u new) old = subst (HasOld (with_paths u new)) e has in
     let b = live_in-without (with_paths u new) old (AreCounts-with u new are) js h in
     (omega arith, subst (λ x. l + g - s ≡ live_in (without_old (with_paths u new) x)) (sym e) (omega arith))
+
+how_many-le : {K : Type 0} (t : K → Bool) (ks : List K) → how_many t ks ≤ length ks
+how_many-le t [] = omega arith
+how_many-le t (k ∷ ks) =
+    let ih = how_many-le t ks in
+    elim (t k) as (λ b. cond b 1 0 + how_many t ks ≤ length (k ∷ ks)) [ true ↦ omega arith | false ↦ omega arith ]
+
+length-hops : (ps : List WeightedHop) → length (hops ps) ≡ length ps
+length-hops [] = refl
+length-hops (p ∷ ps) = let ih = length-hops ps in omega arith
+
+-- a route brings no more targets to life than it has paths, and its group
+grown-le : (u : Uses) (ps : List WeightedHop) → grown u ps ≤ length ps + 1
+grown-le u ps =
+    let n = how_many-le (λ h. count_of hop_cmp u.nhops h == 0) (gained u ps) in
+    let l = of (is_group ps && not (count_of paths_cmp u.groups ps == 0)) in
+    let e = one (is_group ps && (count_of paths_cmp u.groups ps == 0)) in
+    omega arith
+  where
+    of : (b : Bool) → length (cond b [] (hops ps)) ≤ length ps
+    of true = omega arith
+    of false = let h = length-hops ps in omega arith
+
+    one : (b : Bool) → cond b 1 0 ≤ 1
+    one true = omega arith
+    one false = omega arith
+
+length-removed-le : {K : Type 0} (t : K → Bool) (m : Counts K) → length (remove_entry t m) ≤ length m
+length-removed-le t [] = omega arith
+length-removed-le t (e ∷ es) =
+    let ih = length-removed-le t es in
+    elim (t e.0) as (λ b. length (cond b es (e ∷ remove_entry t es)) ≤ length (e ∷ es)) [ true ↦ omega arith | false ↦ omega arith ]
+
+length-unlinked-le : {K : Type 0} (cmp : K → K → Ordering) (m : Counts K) (k : K) → length (unlinked cmp m k) ≤ length m
+length-unlinked-le cmp m k = go (count_of cmp m k == 1)
+  where
+    go : (b : Bool) → length (cond b (remove_entry (is_at (cmp k)) m) (set_value (is_at (cmp k)) m (count_of cmp m k - 1))) ≤ length m
+    go true = length-removed-le (is_at (cmp k)) m
+    go false = let s = length-set_value (is_at (cmp k)) m (count_of cmp m k - 1) in omega arith
+
+length-unlinked_all-le : {K : Type 0} (cmp : K → K → Ordering) (m : Counts K) (ks : List K) → length (unlinked_all cmp m ks) ≤ length m
+length-unlinked_all-le cmp m [] = omega arith
+length-unlinked_all-le cmp m (k ∷ ks) =
+    let ih = length-unlinked_all-le cmp (unlinked cmp m k) ks in
+    let h = length-unlinked-le cmp m k in
+    omega arith
+
+-- a route less leaves no more targets
+live_in-without-le : (u : Uses) (o : Option (List WeightedHop)) → live_in (without_old u o) ≤ live_in u
+live_in-without-le u None = omega arith
+live_in-without-le u (Some ps) =
+    let n = length-unlinked_all-le hop_cmp u.nhops (lost u ps) in
+    let g = go (is_group ps) in
+    omega arith
+  where
+    go : (b : Bool) → length (cond b (unlinked paths_cmp u.groups ps) u.groups) ≤ length u.groups
+    go true = length-unlinked-le paths_cmp u.groups ps
+    go false = omega arith
+
+-- a limit so far away is not passed
+pub within_far : (u : Uses) (new : List WeightedHop) (o : Option (List WeightedHop)) (l n limit : ℕ) → l ≡ live_in u → n ≡ length new → l + n < limit → AreCounts u → IsPathList new → live_in (without_old (with_paths u new) o) ≤ limit
+within_far u new o l n limit size count far are is =
+    let a = live_in-with u new are is in
+    let b = grown-le u new in
+    let d = live_in-without-le (with_paths u new) o in
+    omega arith
+
+pub over_limit : (limit n m : ℕ) → n ≡ m → OnTrue (nat_lt limit n) (limit < m)
+over_limit limit n m e = go (nat_lt limit n) refl
+  where
+    go : (b : Bool) → nat_lt limit n ≡ b → OnTrue b (limit < m)
+    go true h = grind (arith, nat_tests)
+    go false h = tt
+
+pub within_limit : (limit n m : ℕ) → n ≡ m → OnFalse (nat_lt limit n) (m ≤ limit)
+within_limit limit n m e = go (nat_lt limit n) refl
+  where
+    go : (b : Bool) → nat_lt limit n ≡ b → OnFalse b (m ≤ limit)
+    go true h = tt
+    go false h = grind (arith, nat_tests)
 
 -- a list has no more distinct elements than one that has all of them
 distinct-le : {K : Type 0} (cmp : K → K → Ordering) (o : IsTotalOrder cmp) (exact : CmpEqualImpliesEq cmp) (xs ys : List K)

@@ -33,6 +33,7 @@ impl<const W: u32> Model for Links<W> {
 
 impl<const W: u32> Links<W> {
     ghost use Rattle.std.specs.Prelude.{◌≡◌, ℕ, ◌+◌, ◌-◌, ◌<◌, ◌≤◌, ◌^◌, [], length, OnOk, OnErr, ◌&&◌, ◌==◌, not, option_copied, IfOk};
+    ghost use Rattle.std.specs.Bool.{OnTrue, OnFalse};
     ghost use Rattle.std.specs.Map.{keys_of};
     ghost use Rattle.rib_store.specs.Targets.{targets_of};
     ghost use Rattle.counted_map.specs.Counts.{count_of, linked_all, unlinked_all};
@@ -67,14 +68,15 @@ impl<const W: u32> Links<W> {
         paths.len() < 2 || self.groups.count(paths) == 0
     }
 
-    /// The nexthop's count with a route of these paths.
-    fn count_with(&self, nexthop: &Nexthop<W>, paths: &Paths<W>) -> u32
-        requires { count_of hop_cmp self.now.nhops nexthop.now < 1000000 }
+    /// The nexthop's count with a route of these paths, by whether nexthops gain a use with it.
+    fn count_with(&self, nexthop: &Nexthop<W>, paths: &Paths<W>, gains: bool) -> u32
+        requires count { count_of hop_cmp self.now.nhops nexthop.now < 1000000 }
+        requires gains { gains ≡ not (is_group paths.now && not (count_of paths_cmp self.now.groups paths.now == 0)) }
         ensures { result ≡ count_of hop_cmp (with_paths self.now paths.now).nhops nexthop.now }
     {
         let count = self.nhops.count(nexthop);
         let _list = paths.as_slice();
-        if !self.gains(paths) {
+        if !gains {
             return count;
         }
         if paths.has_nexthop(nexthop) {
@@ -121,9 +123,10 @@ impl<const W: u32> Links<W> {
         if old.len() >= 2 && self.group_count_with(old, new) != 1 {
             return 0;
         }
+        let gains = self.gains(new);
         let mut gone = 0;
         for path in old.as_slice() {
-            if self.count_with(path.nexthop(), new) == 1 {
+            if self.count_with(path.nexthop(), new, gains) == 1 {
                 gone += 1;
             }
         }
@@ -131,7 +134,7 @@ impl<const W: u32> Links<W> {
     }
 
     /// How many targets are live once a route has the new paths in place of the old.
-    pub fn live_after(&self, old: Option<&Paths<W>>, new: &Paths<W>) -> u32
+    fn live_after(&self, old: Option<&Paths<W>>, new: &Paths<W>) -> u32
         requires room { HasRoom self.now }
         requires old { HasOld (with_paths self.now new.now) (option_copied old) }
         ensures { result ≡ live_in (without_old (with_paths self.now new.now) (option_copied old.entry)) }
@@ -145,6 +148,20 @@ impl<const W: u32> Links<W> {
                 all - self.shrunk_after(new, old)
             }
         }
+    }
+
+    /// Whether more targets than the limit are live once a route has the new paths in place of the
+    /// old. They are counted only where the limit is near.
+    pub fn passes(&self, old: Option<&Paths<W>>, new: &Paths<W>, limit: u32) -> bool
+        requires room { HasRoom self.now }
+        requires old { HasOld (with_paths self.now new.now) (option_copied old) }
+        ensures over { OnTrue result (limit < live_in (without_old (with_paths self.now new.now) (option_copied old.entry))) }
+        ensures within { OnFalse result (live_in (without_old (with_paths self.now new.now) (option_copied old.entry)) ≤ limit) }
+    {
+        if self.live() + u32::from(new.len()) < limit {
+            return false;
+        }
+        self.live_after(old, new) > limit
     }
 
     /// The live targets, in order.
@@ -168,12 +185,12 @@ impl<const W: u32> Links<W> {
         if paths.len() < 2 {
             return link_all(&mut self.nhops, paths.as_slice());
         }
-        if self.groups.count(paths) > 0 {
-            return self.groups.link(alloc, paths);
+        if self.groups.increase(paths) {
+            return Ok(());
         }
         let _live = self.nhops.live();
         link_all(&mut self.nhops, paths.as_slice())?;
-        match self.groups.link(alloc, paths) {
+        match self.groups.insert(alloc, paths) {
             Ok(()) => Ok(()),
             Err(error) => {
                 unlink_all(&mut self.nhops, paths.as_slice());
@@ -191,10 +208,9 @@ impl<const W: u32> Links<W> {
             unlink_all(&mut self.nhops, paths.as_slice());
             return;
         }
-        if self.groups.count(paths) == 1 {
+        if self.groups.release(paths) {
             unlink_all(&mut self.nhops, paths.as_slice());
         }
-        self.groups.unlink(paths);
     }
 }
 

@@ -115,7 +115,7 @@ impl<const W: u32> Plan<W> {
         self.commands.len() as u32
     }
 
-    /// The command at a position, counted from 0.
+    /// The command at a position, counted from 0. The position is below their number.
     pub fn command(&self, pos: u32) -> &Command<W>
         requires { pos < length self.now.commands }
         ensures command { slice_get self.now.commands pos ≡ Some result.now }
@@ -142,7 +142,7 @@ impl<const W: u32> Plan<W> {
         self.numbers.get(nexthop).copied()
     }
 
-    /// The nexthop of a number, counted from 1.
+    /// The nexthop of a number, counted from 1. The number is given to one.
     pub fn nexthop(&self, number: u32) -> &Nexthop<W>
         requires some { 1 ≤ number }
         requires given { number ≤ length (firsts (named self.now)) }

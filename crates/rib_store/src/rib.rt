@@ -9,7 +9,7 @@ ghost use Rattle.nhgrp_slots.specs.Target.{IsTarget, target_cmp};
 ghost use Rattle.rib_store.specs.declared.command.Reply.TheVariants.{Added};
 ghost use Rattle.rib_store.specs.Limits.{routes_max};
 ghost use Rattle.rib_store.specs.Memory.{wants_none};
-ghost use Rattle.rib_store.specs.Table.{Table, apply, settled, added, changed, replaced, deleted, flushed, paths_at, drop_row};
+ghost use Rattle.rib_store.specs.Table.{Table, apply, settled, added, changed, replaced, deleted, flushed, paths_at};
 ghost use Rattle.rib_store.specs.Targets.{AreClosed, LeadToLive, live};
 ghost use Rattle.rib_store.specs.Uses.{IsRib};
 
@@ -96,7 +96,7 @@ impl<const W: u32, const LIVE: u32> Rib<W, LIVE> {
         self.routes.get(prefix)
     }
 
-    /// The route of a number, counted from 0 in prefix order.
+    /// The route of a number, counted from 0 in prefix order. The number is below theirs.
     pub fn row(&self, n: u32) -> (&Prefix<W>, &Paths<W>)
         requires { n < length self.now }
         ensures { slice_get self.now n ≡ Some (result.0.now, result.1.now) }
@@ -147,7 +147,7 @@ impl<const W: u32, const LIVE: u32> Rib<W, LIVE> {
         if self.routes.len() >= ROUTES_MAX as usize {
             return Ok(Reply::Refused(Refusal::TableFull));
         }
-        if self.links.live_after(None, &paths) > LIVE {
+        if self.links.passes(None, &paths, LIVE) {
             return Ok(Reply::Refused(Refusal::TargetsFull));
         }
         self.links.link(alloc, &paths)?;
@@ -215,13 +215,18 @@ impl<const W: u32, const LIVE: u32> Rib<W, LIVE> {
         )
     }
 
-    /// Takes the prefix's route out, and its links.
-    fn drop_route(&mut self, prefix: &Prefix<W>)
-        ensures { self.new ≡ drop_row self.old prefix.now }
+    /// Takes the prefix's route out, and its links, where there is one.
+    fn drop_route(&mut self, prefix: &Prefix<W>) -> Reply
+        ensures table { self.new ≡ (deleted (settled LIVE) self.old prefix.now None (paths_at self.old prefix.now)).table }
+        ensures reply { result ≡ (deleted (settled LIVE) self.old prefix.now None (paths_at self.old prefix.now)).reply }
     {
         let _live = self.links.live();
-        if let Some(gone) = self.routes.remove(prefix) {
-            self.links.unlink(&gone);
+        match self.routes.remove(prefix) {
+            None => Reply::Refused(Refusal::NotFound),
+            Some(gone) => {
+                self.links.unlink(&gone);
+                Reply::Deleted
+            }
         }
     }
 
@@ -237,33 +242,25 @@ impl<const W: u32, const LIVE: u32> Rib<W, LIVE> {
         ensures err { OnErr result (self.new ≡ self.old) }
         ensures memory { gateway.entry ≡ None → IsOk result }
     {
-        match self.routes.get(&prefix) {
-            None => Ok(Reply::Refused(Refusal::NotFound)),
-            Some(present) => match gateway {
-                None => {
-                    self.drop_route(&prefix);
-                    Ok(Reply::Deleted)
-                }
-                Some(gateway) => {
-                    if !present.goes_by(&gateway) {
-                        return Ok(Reply::Refused(Refusal::NotFound));
-                    }
-                    match present.without(alloc, &gateway)? {
-                        None => {
-                            self.drop_route(&prefix);
-                            Ok(Reply::Deleted)
-                        }
-                        Some(paths) => replace::<W, LIVE>(
-                            &mut self.routes,
-                            &mut self.links,
-                            alloc,
-                            &prefix,
-                            paths,
-                            Reply::Deleted,
-                        ),
-                    }
-                }
-            },
+        let Some(gateway) = gateway else {
+            return Ok(self.drop_route(&prefix));
+        };
+        let Some(present) = self.routes.get(&prefix) else {
+            return Ok(Reply::Refused(Refusal::NotFound));
+        };
+        if !present.goes_by(&gateway) {
+            return Ok(Reply::Refused(Refusal::NotFound));
+        }
+        match present.without(alloc, &gateway)? {
+            None => Ok(self.drop_route(&prefix)),
+            Some(paths) => replace::<W, LIVE>(
+                &mut self.routes,
+                &mut self.links,
+                alloc,
+                &prefix,
+                paths,
+                Reply::Deleted,
+            ),
         }
     }
 
@@ -305,7 +302,7 @@ fn replace<const W: u32, const LIVE: u32>(
     let Some(present) = routes.get_mut(prefix) else {
         return Ok(Reply::Refused(Refusal::NotFound));
     };
-    if links.live_after(Some(&*present), &paths) > LIVE {
+    if links.passes(Some(&*present), &paths, LIVE) {
         return Ok(Reply::Refused(Refusal::TargetsFull));
     }
     links.link(alloc, &paths)?;

@@ -1,4 +1,4 @@
-use Rattle.std.proofs.Common.{◌≡◌, ap, sym, ◌∙◌, subst, lit<, List, arith}
+use Rattle.std.proofs.Common.{◌≡◌, ap, refl, sym, ◌∙◌, subst, lit<, List}
 use Rattle.std.specs.Map.{set_value}
 use Rattle.std.specs.BTreeMap.{is_at}
 use Rattle.prefix_width.specs.Path.{WeightedHop}
@@ -8,28 +8,28 @@ use Rattle.rib_store.specs.Uses.{Uses, IsRib, HasPaths, with_paths, without_path
 use Rattle.rib_store.proofs.ReplacedLemmas.{replaces, on_err}
 use Rattle.rib_store.proofs.rib.replace.Goals as goal
 
-pub live_after-requires : goal.live_after-requires
-live_after-requires g c =
+pub passes-requires : goal.passes-requires
+passes-requires g c =
     let r = replaces g.row.LIVE c.args.routes.now.entries c.args.links.now c.args.prefix.now c.in-Some.present.now c.args.paths c.args.reply c.in-Some.ensures.value c.in-Some.ensures.ordered c.requires c.live-live.ensures.counts c.as_slice-list.ensures.list in
     (lit< tt, (lit< tt, (r.room, r.has)))
 
-pub returns-then-live_after-clause-rib :
-    goal.returns-then-live_after-clause-rib
-returns-then-live_after-clause-rib g c =
+pub returns-then-passes-clause-rib :
+    goal.returns-then-passes-clause-rib
+returns-then-passes-clause-rib g c =
     let r = replaces g.row.LIVE c.args.routes.now.entries c.args.links.now c.args.prefix.now c.in-Some.present.now c.args.paths c.args.reply c.in-Some.ensures.value c.in-Some.ensures.ordered c.requires c.live-live.ensures.counts c.as_slice-list.ensures.list in
     subst (λ (rows : Table). IsRib g.row.LIVE rows c.args.links.now) (sym ((c.get_mut.follows.holds c.in-Some.present.now).0 ∙ r.same)) c.requires
 
-pub returns-then-live_after-clause-table :
-    goal.returns-then-live_after-clause-table
-returns-then-live_after-clause-table g c =
+pub returns-then-passes-clause-table :
+    goal.returns-then-passes-clause-table
+returns-then-passes-clause-table g c =
     let r = replaces g.row.LIVE c.args.routes.now.entries c.args.links.now c.args.prefix.now c.in-Some.present.now c.args.paths c.args.reply c.in-Some.ensures.value c.in-Some.ensures.ordered c.requires c.live-live.ensures.counts c.as_slice-list.ensures.list in
-    (c.get_mut.follows.holds c.in-Some.present.now).0 ∙ r.same ∙ sym (ap (λ (o : Outcome). o.table) (r.full c.live_after.result c.live_after.ensures (omega arith)))
+    (c.get_mut.follows.holds c.in-Some.present.now).0 ∙ r.same ∙ sym (ap (λ (o : Outcome). o.table) (r.full _ refl c.if-passes.ensures.over))
 
-pub returns-then-live_after-clause-reply :
-    goal.returns-then-live_after-clause-reply
-returns-then-live_after-clause-reply g c =
+pub returns-then-passes-clause-reply :
+    goal.returns-then-passes-clause-reply
+returns-then-passes-clause-reply g c =
     let r = replaces g.row.LIVE c.args.routes.now.entries c.args.links.now c.args.prefix.now c.in-Some.present.now c.args.paths c.args.reply c.in-Some.ensures.value c.in-Some.ensures.ordered c.requires c.live-live.ensures.counts c.as_slice-list.ensures.list in
-    sym (ap (λ (o : Outcome). o.reply) (r.full c.live_after.result c.live_after.ensures (omega arith)))
+    sym (ap (λ (o : Outcome). o.reply) (r.full _ refl c.if-passes.ensures.over))
 
 pub returns-in_err-link-clause-rib : goal.returns-in_err-link-clause-rib
 returns-in_err-link-clause-rib g c =
@@ -56,7 +56,7 @@ returns-clause-rib g c =
     ∙ ap (λ (u : Uses). without_paths u c.replace-old.result) c.in_ok-link.ensures.ok
     ∙ ap (λ (ps : List WeightedHop). without_paths (with_paths c.args.links.now c.args.paths) ps) c.replace-old.ensures.value in
     subst (λ (rows : Table). IsRib g.row.LIVE rows c.unlink.new.self) (sym put)
-    (subst (λ (u : Uses). IsRib g.row.LIVE (put_row c.args.routes.now.entries c.args.prefix.now c.args.paths) u) (sym links) (r.rib c.live_after.result c.live_after.ensures (omega arith)))
+    (subst (λ (u : Uses). IsRib g.row.LIVE (put_row c.args.routes.now.entries c.args.prefix.now c.args.paths) u) (sym links) (r.rib _ refl c.if-passes.ensures.within))
 
 pub returns-clause-table : goal.returns-clause-table
 returns-clause-table g c =
@@ -64,9 +64,9 @@ returns-clause-table g c =
     (c.get_mut.follows.holds c.replace-old.new.dest).0
     ∙ ap (set_value (is_at (block_cmp c.args.prefix.now)) c.args.routes.now.entries) c.replace-old.ensures.after
     ∙ r.put
-    ∙ sym (ap (λ (o : Outcome). o.table) (r.done c.live_after.result c.live_after.ensures (omega arith)))
+    ∙ sym (ap (λ (o : Outcome). o.table) (r.done _ refl c.if-passes.ensures.within))
 
 pub returns-clause-reply : goal.returns-clause-reply
 returns-clause-reply g c =
     let r = replaces g.row.LIVE c.args.routes.now.entries c.args.links.now c.args.prefix.now c.in-Some.present.now c.args.paths c.args.reply c.in-Some.ensures.value c.in-Some.ensures.ordered c.requires c.live-live.ensures.counts c.as_slice-list.ensures.list in
-    sym (ap (λ (o : Outcome). o.reply) (r.done c.live_after.result c.live_after.ensures (omega arith)))
+    sym (ap (λ (o : Outcome). o.reply) (r.done _ refl c.if-passes.ensures.within))

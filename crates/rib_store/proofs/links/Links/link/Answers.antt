@@ -22,6 +22,6 @@ returns-in-Err-clause-err g c =
     let o = c.unlink_all.ensures in
     let f : c.unlink_all.new.nhops ≡ unlinked_all hop_cmp (linked_all hop_cmp c.self.inside.nhops (hops c.as_slice-in-Err.result.now)) (hops c.as_slice-in-Err.result.now) = cc in
     let n = undone_all _ _ (hops c.as_slice-in-Err.result.now) f c.live-live.ensures.counts in
-    let g = c.in-Err.ensures.err in
+    let g = c.in-Err.ensures.err ∙ c.if-increase.ensures.same in
     let v = c.self.view_is in
     (λ i. record { nhops = n i; groups = g i }) ∙ v

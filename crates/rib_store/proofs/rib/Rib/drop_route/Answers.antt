@@ -10,8 +10,8 @@ unlink-requires g c =
     let d = drops_route g.row.LIVE c.self.inside.routes.entries c.self.inside.links c.args.prefix.now c.in-Some.gone (sym c.in-Some.is ∙ c.remove.ensures.value) c.self.invariant c.live-live.ensures.counts in
     (lit< tt, (lit< tt, d.has))
 
-pub invariant_of-self : goal.invariant_of-self
-invariant_of-self g c =
+pub invariant_of-self-in-Some : goal.invariant_of-self-in-Some
+invariant_of-self-in-Some g c =
     let d = drops_route g.row.LIVE c.self.inside.routes.entries c.self.inside.links c.args.prefix.now c.in-Some.gone (sym c.in-Some.is ∙ c.remove.ensures.value) c.self.invariant c.live-live.ensures.counts in
     subst (λ (rows : Table). IsRib g.row.LIVE rows c.unlink.new.self) (sym c.remove.ensures.entries)
     (subst (λ (u : Uses). IsRib g.row.LIVE (drop_row c.self.inside.routes.entries c.args.prefix.now) u) (sym c.unlink.ensures) d.rib)

@@ -1,4 +1,4 @@
-use Rattle.std.proofs.Common.{◌≡◌, ap, sym, ◌∙◌, subst, lit<, List, arith}
+use Rattle.std.proofs.Common.{◌≡◌, ap, refl, sym, ◌∙◌, subst, lit<, List, arith}
 use Rattle.prefix_width.specs.Path.{WeightedHop}
 use Rattle.prefix_width.specs.Prefix.{Block}
 use Rattle.rib_store.specs.Uses.{Uses, with_paths, without_paths, HasPaths}
@@ -28,23 +28,23 @@ returns-then-len-clause-reply g c =
     ∙ ap (λ (rows : Table). refused rows TableFull) c.self.view_is in
     sym (ap (λ (o : Outcome). o.reply) full)
 
-pub returns-then-live_after-clause-table :
-    goal.returns-then-live_after-clause-table
-returns-then-live_after-clause-table g c =
+pub returns-then-passes-clause-table :
+    goal.returns-then-passes-clause-table
+returns-then-passes-clause-table g c =
     let r = puts_new g.row.LIVE c.self.inside.routes.entries c.self.inside.links c.args.prefix c.args.paths Added (ap (λ (rows : Table). paths_at rows c.args.prefix) c.self.view_is ∙ c.requires) c.len.ensures.ordered c.self.invariant c.live-live.ensures.counts c.as_slice-list.ensures.list in
     let full : settled g.row.LIVE c.args.self.now c.args.prefix c.args.paths Added ≡ refused c.args.self.now TargetsFull =
     ap (λ (rows : Table). settled g.row.LIVE rows c.args.prefix c.args.paths Added) (sym c.self.view_is)
-    ∙ r.targets_full c.len.result c.live_after.result c.len.ensures.len (omega arith) c.live_after.ensures (omega arith)
+    ∙ r.targets_full c.len.result _ c.len.ensures.len (omega arith) refl c.if-passes.ensures.over
     ∙ ap (λ (rows : Table). refused rows TargetsFull) c.self.view_is in
     sym (ap (λ (o : Outcome). o.table) full)
 
-pub returns-then-live_after-clause-reply :
-    goal.returns-then-live_after-clause-reply
-returns-then-live_after-clause-reply g c =
+pub returns-then-passes-clause-reply :
+    goal.returns-then-passes-clause-reply
+returns-then-passes-clause-reply g c =
     let r = puts_new g.row.LIVE c.self.inside.routes.entries c.self.inside.links c.args.prefix c.args.paths Added (ap (λ (rows : Table). paths_at rows c.args.prefix) c.self.view_is ∙ c.requires) c.len.ensures.ordered c.self.invariant c.live-live.ensures.counts c.as_slice-list.ensures.list in
     let full : settled g.row.LIVE c.args.self.now c.args.prefix c.args.paths Added ≡ refused c.args.self.now TargetsFull =
     ap (λ (rows : Table). settled g.row.LIVE rows c.args.prefix c.args.paths Added) (sym c.self.view_is)
-    ∙ r.targets_full c.len.result c.live_after.result c.len.ensures.len (omega arith) c.live_after.ensures (omega arith)
+    ∙ r.targets_full c.len.result _ c.len.ensures.len (omega arith) refl c.if-passes.ensures.over
     ∙ ap (λ (rows : Table). refused rows TargetsFull) c.self.view_is in
     sym (ap (λ (o : Outcome). o.reply) full)
 
@@ -52,7 +52,7 @@ pub invariant_of-self-in-Ok-None : goal.invariant_of-self-in-Ok-None
 invariant_of-self-in-Ok-None g c =
     let r = puts_new g.row.LIVE c.self.inside.routes.entries c.self.inside.links c.args.prefix c.args.paths Added (ap (λ (rows : Table). paths_at rows c.args.prefix) c.self.view_is ∙ c.requires) c.len.ensures.ordered c.self.invariant c.live-live.ensures.counts c.as_slice-list.ensures.list in
     subst (λ (rows : Table). IsRib g.row.LIVE rows c.link.new.self) (sym c.in-Ok-None.ensures.entries)
-    (subst (λ (u : Uses). IsRib g.row.LIVE (put_row c.self.inside.routes.entries c.args.prefix c.args.paths) u) (sym c.in_ok-link.ensures.ok) (r.rib c.len.result c.live_after.result c.len.ensures.len (omega arith) c.live_after.ensures (omega arith)))
+    (subst (λ (u : Uses). IsRib g.row.LIVE (put_row c.self.inside.routes.entries c.args.prefix c.args.paths) u) (sym c.in_ok-link.ensures.ok) (r.rib c.len.result _ c.len.ensures.len (omega arith) refl c.if-passes.ensures.within))
 
 pub unlink-requires : goal.unlink-requires
 unlink-requires g c =
@@ -87,7 +87,7 @@ returns-in-Ok-None-clause-table g c =
     let r = puts_new g.row.LIVE c.self.inside.routes.entries c.self.inside.links c.args.prefix c.args.paths Added (ap (λ (rows : Table). paths_at rows c.args.prefix) c.self.view_is ∙ c.requires) c.len.ensures.ordered c.self.invariant c.live-live.ensures.counts c.as_slice-list.ensures.list in
     let done =
     ap (λ (rows : Table). settled g.row.LIVE rows c.args.prefix c.args.paths Added) (sym c.self.view_is)
-    ∙ r.done c.len.result c.live_after.result c.len.ensures.len (omega arith) c.live_after.ensures (omega arith) in
+    ∙ r.done c.len.result _ c.len.ensures.len (omega arith) refl c.if-passes.ensures.within in
     c.in-Ok-None.ensures.entries ∙ sym (ap (λ (o : Outcome). o.table) done)
 
 pub returns-in-Ok-None-clause-reply : goal.returns-in-Ok-None-clause-reply
@@ -95,5 +95,5 @@ returns-in-Ok-None-clause-reply g c =
     let r = puts_new g.row.LIVE c.self.inside.routes.entries c.self.inside.links c.args.prefix c.args.paths Added (ap (λ (rows : Table). paths_at rows c.args.prefix) c.self.view_is ∙ c.requires) c.len.ensures.ordered c.self.invariant c.live-live.ensures.counts c.as_slice-list.ensures.list in
     let done =
     ap (λ (rows : Table). settled g.row.LIVE rows c.args.prefix c.args.paths Added) (sym c.self.view_is)
-    ∙ r.done c.len.result c.live_after.result c.len.ensures.len (omega arith) c.live_after.ensures (omega arith) in
+    ∙ r.done c.len.result _ c.len.ensures.len (omega arith) refl c.if-passes.ensures.within in
     sym (ap (λ (o : Outcome). o.reply) done)

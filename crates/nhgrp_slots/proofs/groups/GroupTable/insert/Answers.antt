@@ -6,15 +6,10 @@ use Rattle.counted_map.proofs.CountMapLemmas.{all_keys-linked}
 use Rattle.prefix_width.specs.Path.{WeightedHop}
 use Rattle.nhgrp_slots.specs.Order.{paths_cmp, paths_total}
 use Rattle.nhgrp_slots.specs.PathList.{IsGroup}
-use Rattle.nhgrp_slots.proofs.groups.GroupTable.link.Goals as goal
-
-pub invariant_of-self : goal.invariant_of-self
-invariant_of-self g c =
-    subst (λ (m : Counts (List WeightedHop)). All IsGroup (keys_of m)) (sym c.if-increase.ensures.more)
-    (all_keys-linked paths_cmp paths_total IsGroup _ c.args.group.now c.requires.several c.self.invariant)
+use Rattle.nhgrp_slots.proofs.groups.GroupTable.insert.Goals as goal
 
 pub invariant_of-self-2 : goal.invariant_of-self-2
 invariant_of-self-2 g c =
     let several = subst IsGroup (sym c.in_ok-key.ensures) c.requires.several in
     subst (λ (m : Counts (List WeightedHop)). All IsGroup (keys_of m)) (sym c.in_ok-insert.ensures.ok)
-    (all_keys-linked paths_cmp paths_total IsGroup _ c.in_ok-key.key several (subst (λ (m : Counts (List WeightedHop)). All IsGroup (keys_of m)) (sym c.if-increase.ensures.same) c.self.invariant))
+    (all_keys-linked paths_cmp paths_total IsGroup _ c.in_ok-key.key several c.self.invariant)
