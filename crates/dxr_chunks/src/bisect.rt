@@ -18,6 +18,7 @@ fn forward_if_below(low: usize, half: usize, start: u16, offset: u16) -> usize
 }
 
 /// The index of the last fragment from one place up to another that starts at or below an offset.
+/// `first` is below `end`, which is at most the number of fragments.
 pub fn index_in_run<C: CellReads<Cell = (u16, u16)>, L: Ledger>(
     fragments: &C,
     first: usize,

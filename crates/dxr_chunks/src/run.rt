@@ -13,7 +13,8 @@ pub(crate) fn base_of(chunk: u32) -> u128
     u128::from(chunk) * 65_536
 }
 
-/// How many cells start at or below the first address of a chunk, below which so many start.
+/// How many cells start at or below the first address of a chunk, below which so many start. The
+/// cells ascend by their starts, of which the first is 0.
 pub fn pass_border(cells: &[(u128, u16)], passed: usize, chunk: u32) -> usize
     requires first { slice_get (keys_of cells.now) 0 ≡ Some 0 }
     requires ascending { IsUp (keys_of cells.now) }
@@ -33,7 +34,8 @@ pub fn pass_border(cells: &[(u128, u16)], passed: usize, chunk: u32) -> usize
 }
 
 /// Adds the run of a chunk, at or below whose first address so many cells start. The answer is how
-/// many start below the addresses of the chunk behind it. Neighbours with one index are merged.
+/// many start below the addresses of the chunk behind it. Neighbours with one index are merged. The
+/// cells ascend by their starts, and one starts at or below the chunk at least.
 pub fn add_run(
     fragments: &mut Vec<(u16, u16)>,
     cells: &[(u128, u16)],

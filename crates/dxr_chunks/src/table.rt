@@ -93,7 +93,9 @@ impl ChunkTable {
         ensures answer { (rows : List (Block × ℕ)) → IsChunksOf rows self.now → result ≡ index_of (longest W rows addr.now) }
         ensures cost { (rows : List (Block × ℕ)) → IsChunksOf rows self.now → steps.new ≤ steps.old + 19 }
     {
-        let value = addr.value();
+        // Its low half alone: read from where the whole was just stored, the upper bits would have
+        // to wait for that store.
+        let value = addr.value() as u32;
         let index = self.index_at((value >> 16) as usize, (value % 65_536) as u16, steps);
         if index == 0 { None } else { Some(index) }
     }

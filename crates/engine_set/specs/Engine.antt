@@ -55,3 +55,15 @@ abbrev pub SameNodes : {W : _} → Engine W → Engine W → Type 0
 SameNodes (Radix old) (Radix new) = (key : ℕ) → nodes_of new key ≡ nodes_of old key
 SameNodes (Dxr old) (Dxr new) = IsSameAs old new
 SameNodes old new = Unit {0}
+
+-- how many pages of an engine's nodes were written to since it was settled, and how many of a copy's were made for it; a kind
+-- without such pages has none
+abbrev pub unsettled_of : {W : _} → Engine W → ℕ
+unsettled_of (Radix table) = table.unsettled
+unsettled_of (Dxr table) = table.unsettled
+unsettled_of engine = 0
+
+abbrev pub made_of : {W : _} → Engine W → ℕ
+made_of (Radix table) = table.made
+made_of (Dxr table) = table.made
+made_of engine = 0

@@ -1,11 +1,11 @@
 //! The modules as one.
-ghost use Rattle.std.specs.Prelude.{◌≡◌, ◌≢◌, ◌↔◌, ℕ, ◌+◌, ◌*◌, ◌≤◌, List, length, Ok, true, IfOk};
+ghost use Rattle.std.specs.Prelude.{◌≡◌, ◌≢◌, ◌↔◌, ℕ, ◌+◌, ◌*◌, ◌≤◌, List, length, Ok, true, IfOk, OnOk};
 ghost use Rattle.prefix_width.specs.Choice.{Suits};
 ghost use Rattle.prefix_width.specs.Prefix.{Block};
 ghost use Rattle.prefix_width.specs.Longest.{longest};
 ghost use Rattle.module_trait.specs.Edit.{undone_all, HaveAfter, AreOfDistinct};
 ghost use Rattle.module_trait.specs.Rows.{AreRows, index_of};
-ghost use Rattle.engine_set.specs.Engine.{IsBound, IsTaken, KeepsOthers, SameNodes, Stands, kind_of};
+ghost use Rattle.engine_set.specs.Engine.{IsBound, IsTaken, KeepsOthers, SameNodes, Stands, kind_of, made_of, unsettled_of};
 
 use crate::OutOfMemory;
 use crate::inet::InetDxr;
@@ -41,7 +41,8 @@ fn is_done(verdict: Verdict) -> bool
 }
 
 impl<const W: u32> Engine<W> {
-    /// An engine of this kind for these rows.
+    /// An engine of this kind for these rows. The kind suits the width, since DXR is for 32 bits
+    /// alone, and the rows ascend by prefix.
     pub fn build(
         alloc: Global,
         kind: Kind,
@@ -86,7 +87,8 @@ impl<const W: u32> Engine<W> {
     }
 
     /// Takes edits of distinct prefixes over, after which the rows are the view's. The answer is
-    /// true exactly where the module's answer is Done.
+    /// true exactly where the module's answer is Done. Undone in the view, the edits leave the rows
+    /// that the engine stands for.
     pub fn update(
         &mut self,
         alloc: Global,
@@ -134,11 +136,12 @@ impl<const W: u32> Engine<W> {
         }
     }
 
-    /// Readies it for copies.
+    /// Readies it for copies: no page of its nodes is unsettled then.
     pub fn settle(&mut self, alloc: Global) -> Result<(), OutOfMemory>
         ensures stands { (rows : List (Block × ℕ)) → Stands self.old rows → Stands self.new rows }
         ensures kind { kind_of self.new ≡ kind_of self.old }
         ensures same { SameNodes self.old self.new }
+        ensures settled { OnOk result (unsettled_of self.new ≡ 0) }
     {
         match self {
             Engine::Scan(table) => table.settle(alloc),
@@ -148,11 +151,13 @@ impl<const W: u32> Engine<W> {
         }
     }
 
-    /// An engine of the same kind that stands for the same rows.
+    /// An engine of the same kind that stands for the same rows. It shares each page of nodes that
+    /// was not written to since the engine was settled.
     pub fn copy(&self, alloc: Global) -> Result<Engine<W>, OutOfMemory>
         ensures stands { IfOk result (λ copy. (rows : List (Block × ℕ)) → Stands self.now rows → Stands copy rows) }
         ensures kind { IfOk result (λ copy. kind_of copy ≡ kind_of self.now) }
         ensures same { IfOk result (λ copy. SameNodes self.now copy) }
+        ensures made { IfOk result (λ copy. made_of copy ≤ unsettled_of self.now) }
     {
         match self {
             Engine::Scan(table) => Ok(Engine::Scan(table.copy(alloc)?)),

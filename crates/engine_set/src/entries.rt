@@ -64,7 +64,7 @@ impl Entries {
         self.entries.len()
     }
 
-    /// The entry at a place of the list.
+    /// The entry at a place of the list. `i` is below their number.
     pub fn entry(&self, i: usize) -> &Entry
         requires { i < length self.now }
         ensures { slice_get self.now i ≡ Some result.now }

@@ -1,5 +1,5 @@
 //! Direct cells and chunks in a family of any width.
-ghost use Rattle.std.specs.Prelude.{◌≡◌, ◌≢◌, ℕ, ◌+◌, ◌≤◌, List, Ok, IfOk};
+ghost use Rattle.std.specs.Prelude.{◌≡◌, ◌≢◌, ℕ, ◌+◌, ◌≤◌, List, Ok, IfOk, OnOk};
 ghost use Rattle.prefix_width.specs.Prefix.{Block};
 ghost use Rattle.prefix_width.specs.Longest.{longest};
 ghost use Rattle.module_trait.specs.Edit.{undone_all, HaveAfter, AreOfDistinct};
@@ -101,6 +101,7 @@ impl<const W: u32> InetDxr<W> {
     pub(crate) fn settle(&mut self, alloc: Global) -> Result<(), OutOfMemory>
         ensures stands { (rows : List (Block × ℕ)) → IsChunksOf rows self.old → IsChunksOf rows self.new }
         ensures same { self.new ≡ record self.old { unsettled = self.new.unsettled } }
+        ensures settled { OnOk result (self.new.unsettled ≡ 0) }
     {
         self.table.settle(alloc)
     }
@@ -109,6 +110,7 @@ impl<const W: u32> InetDxr<W> {
     pub(crate) fn copy(&self, alloc: Global) -> Result<InetDxr<W>, OutOfMemory>
         ensures stands { IfOk result (λ copy. (rows : List (Block × ℕ)) → IsChunksOf rows self.now → IsChunksOf rows copy) }
         ensures same { IfOk result (λ copy. IsSameAs self.now copy) }
+        ensures made { IfOk result (λ copy. copy.made ≤ self.now.unsettled) }
     {
         Ok(InetDxr {
             table: self.table.copy(alloc)?,
