@@ -1,4 +1,5 @@
 pub mod AddressLemmas
+pub mod DigitLemmas
 pub mod NumberLemmas
 pub mod OctetLemmas
 pub mod PrefixGrammarLemmas

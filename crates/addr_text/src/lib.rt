@@ -4,6 +4,7 @@
 //! one text alone (IPv6: RFC 5952 section 4, with no dotted tail). Reading takes no memory.
 #![tactic(auto)]
 
+mod digits;
 mod laws;
 mod number;
 mod read;
@@ -16,7 +17,7 @@ pub use laws::{
 pub use number::read_number;
 pub use read::{read_addr, read_prefix, read_v4, read_v6};
 pub use std::alloc::AllocError as OutOfMemory;
-pub use write::{write_addr, write_prefix};
+pub use write::{write_addr, write_number, write_prefix};
 
 #[cfg(test)]
 mod tests;

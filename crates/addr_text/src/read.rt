@@ -27,7 +27,8 @@ pub fn read_v6(text: &[u8]) -> Option<Addr<128>>
     read_addr::<128>(text)
 }
 
-/// The address that a text writes, of IPv4 at 32 bits and of IPv6 at 128. `None` for any other text.
+/// The address that a text writes, of IPv4 at 32 bits and of IPv6 at 128. `None` for any other
+/// text. `W` is 32 or 128.
 pub fn read_addr<const W: u32>(text: &[u8]) -> Option<Addr<W>>
     requires { IsFamilyWidth W }
     ensures { result ≡ address_of W text.now }
@@ -58,7 +59,8 @@ fn v6_bits(text: &[u8]) -> Option<u128>
 }
 
 /// The prefix that a text writes: `ADDR/LEN`, whose host bits are cleared; an address alone, which
-/// is a prefix of full length; or `default`, the prefix of length 0. `None` for any other text.
+/// is a prefix of full length; or `default`, the prefix of length 0. `None` for any other text. `W`
+/// is 32 or 128.
 pub fn read_prefix<const W: u32>(text: &[u8]) -> Option<Prefix<W>>
     requires { IsFamilyWidth W }
     ensures exact { result ≡ block_of W text.now }

@@ -1,5 +1,7 @@
 //! Texts of both families that are taken, refused and written.
-use crate::{read_addr, read_number, read_prefix, read_v4, read_v6, write_addr, write_prefix};
+use crate::{
+    read_addr, read_number, read_prefix, read_v4, read_v6, write_addr, write_number, write_prefix,
+};
 use prefix_width::{Addr, Prefix};
 use std::test::Fail;
 
@@ -473,6 +475,23 @@ fn prefixes_are_written(rt: HostRuntime) -> Result<(), Fail> {
             write_prefix(rt.alloc(), &prefix, &mut out)?;
         }
         assert_eq!(rt; out.as_slice(), want.as_bytes(), "{text}");
+    }
+    Ok(())
+}
+
+#[test]
+fn numbers_are_written(rt: HostRuntime) -> Result<(), Fail> {
+    for (number, want) in [
+        (0, "ok 0"),
+        (9, "ok 9"),
+        (10, "ok 10"),
+        (1_048_576, "ok 1048576"),
+        (4_294_967_295, "ok 4294967295"),
+    ] {
+        let mut out = Vec::new(rt.alloc());
+        out.extend_from_slice(b"ok ")?;
+        write_number(number, &mut out)?;
+        assert_eq!(rt; out.as_slice(), want.as_bytes());
     }
     Ok(())
 }

@@ -3,13 +3,14 @@ use Rattle.std.proofs.Common.{◌≡◌, ◌∙◌, ℕ, zero, suc, ◌+◌, ◌
 use Rattle.std.specs.List.{cons_option, enumerate_from, filter_map, slice_get}
 use Rattle.std.proofs.lemmas.Grind.{flat_map-append}
 use Rattle.rib_store.specs.declared.command.Command.{Command}
-use Rattle.route_lang.specs.Asked.{asked_of, request_by, requested, shared_request}
+use Rattle.route_lang.specs.Reader.Asked.{asked_of, request_by, requested, shared_request}
 use Rattle.route_lang.specs.Generator.{draw, state_after, DrawnLine, drawn_line, drawn_lines, generated}
+use Rattle.route_lang.specs.Grammar.{unless_faulty}
 use Rattle.route_lang.specs.Limits.{input_limit}
-use Rattle.route_lang.specs.Reader.{plans_behind, entries_of, with_front, then_lines, lines_from, script_read}
-use Rattle.route_lang.specs.ReaderDraws.{AskedDraw, asked_line, led_by, generated_from, script_drawn}
+use Rattle.route_lang.specs.Reader.Lines.{plans_behind, entries_of, with_front, then_lines, lines_from, script_read}
+use Rattle.route_lang.specs.Reader.Draws.{AskedDraw, asked_line, led_by, generated_from, script_drawn}
 use Rattle.route_lang.specs.Request.{Request, OfInet, OfInet6, OfBoth, LookUp, LookUp6}
-use Rattle.route_lang.specs.Script.{Reading, inet_commands, inet6_commands, inet_plan, inet6_plan, line_behind, lines_behind, fault_at, request_at, fault_of, request_of, unless_faulty, input_too_large, script_of}
+use Rattle.route_lang.specs.Script.{Reading, inet_commands, inet6_commands, inet_plan, inet6_plan, line_behind, lines_behind, fault_at, request_at, fault_of, request_of, input_too_large, script_of}
 use Rattle.route_lang.specs.Text.{lines_of}
 use Rattle.route_lang.proofs.AskedAgreementLemmas.{asked_agrees}
 use Rattle.route_lang.specs.declared.asked.Asked.{Asked}
@@ -19,6 +20,10 @@ use Rattle.route_lang.specs.declared.fault.LineFault.{LineFault}
 use Rattle.route_lang.specs.declared.fault.Reason.{Reason}
 use Rattle.route_lang.specs.declared.line.Line.{Line}
 use Rattle.route_lang.specs.declared.script.Plans.{Plans}
+
+-- what lines ask for, unless one is faulty
+abbrev script_unless : Option LineFault → Reading → Result Reading LineFault
+script_unless fault script = unless_faulty fault (Ok script)
 
 -- ---- one request more
 
@@ -88,30 +93,30 @@ made_first : (done later : List (ℕ × Request)) (n : ℕ) (r : Request) → le
 made_first done later n r = ap (reading_with (line_behind done (n, r) ∷ lines_behind (done ++ (n, r) ∷ []) later)) (append_assoc done ((n, r) ∷ []) later)
 
 front_agrees : (done later : List (ℕ × Request)) (n : ℕ) (asked : Option Request) (fault : Option LineFault)
-    → with_front (line_if done n asked) (unless_faulty fault (made_behind (taken done n asked) later)) ≡ unless_faulty fault (made_behind done (cons_option (request_at n (Ok asked)) later))
+    → with_front (line_if done n asked) (script_unless fault (made_behind (taken done n asked) later)) ≡ script_unless fault (made_behind done (cons_option (request_at n (Ok asked)) later))
 front_agrees done later n asked (Some fault) = refl
 front_agrees done later n None None = refl
-front_agrees done later n (Some r) None = ap (λ (script : Reading). unless_faulty None script) (made_first done later n r)
+front_agrees done later n (Some r) None = ap (λ (script : Reading). script_unless None script) (made_first done later n r)
 
 line_agrees : (done later : List (ℕ × Request)) (n : ℕ) (asked : Result Asked Reason) (faults : List LineFault) (below : Plans → Result Reading LineFault)
-    → ((more : List (ℕ × Request)) → below (plans_of more) ≡ unless_faulty (slice_get faults 0) (made_behind more later))
-    → then_lines n (plans_of done) asked below ≡ unless_faulty (slice_get (cons_option (fault_at n (requested asked)) faults) 0) (made_behind done (cons_option (request_at n (requested asked)) later))
+    → ((more : List (ℕ × Request)) → below (plans_of more) ≡ script_unless (slice_get faults 0) (made_behind more later))
+    → then_lines n (plans_of done) asked below ≡ script_unless (slice_get (cons_option (fault_at n (requested asked)) faults) 0) (made_behind done (cons_option (request_at n (requested asked)) later))
 line_agrees done later n (Err reason) faults below h = refl
 line_agrees done later n (Ok asked) faults below h =
     let more = taken done n (request_by asked) in
     ap (λ plans. with_front (entries_of n (plans_of done) asked) (below plans)) (plans_agree done n asked)
     ∙ ap (with_front (entries_of n (plans_of done) asked)) (h more)
-    ∙ ap (λ front. with_front front (unless_faulty (slice_get faults 0) (made_behind more later))) (entries_agree done n asked)
+    ∙ ap (λ front. with_front front (script_unless (slice_get faults 0) (made_behind more later))) (entries_agree done n asked)
     ∙ front_agrees done later n (request_by asked) (slice_get faults 0)
 
 lines_agree : (done : List (ℕ × Request)) (n : ℕ) (texts : List (List ℕ))
-    → lines_from n (plans_of done) texts ≡ unless_faulty (slice_get (filter_map fault_of (enumerate_from n texts)) 0) (made_behind done (filter_map request_of (enumerate_from n texts)))
-lines_agree done n [] = sym (ap (λ asked. unless_faulty None (reading_with [] asked)) (append-nil done))
+    → lines_from n (plans_of done) texts ≡ script_unless (slice_get (filter_map fault_of (enumerate_from n texts)) 0) (made_behind done (filter_map request_of (enumerate_from n texts)))
+lines_agree done n [] = sym (ap (λ asked. script_unless None (reading_with [] asked)) (append-nil done))
 lines_agree done n (text ∷ texts) =
     let later = filter_map request_of (enumerate_from (n + 1) texts) in
     let faults = filter_map fault_of (enumerate_from (n + 1) texts) in
     line_agrees done later n (asked_of n text) faults (λ behind. lines_from (n + 1) behind texts) (λ more. lines_agree more (n + 1) texts)
-    ∙ ap (λ asked. unless_faulty (slice_get (cons_option (fault_at n asked) faults) 0) (made_behind done (cons_option (request_at n asked) later))) (asked_agrees n text)
+    ∙ ap (λ asked. script_unless (slice_get (cons_option (fault_at n asked) faults) 0) (made_behind done (cons_option (request_at n asked) later))) (asked_agrees n text)
 
 -- the script that is read line by line is the definition's
 pub script_agrees : (bytes : List ℕ) → script_read bytes ≡ script_of bytes

@@ -9,13 +9,13 @@ use Rattle.addr_text.specs.Number.{number_of}
 use Rattle.addr_text.specs.PrefixText.{block_of}
 use Rattle.rib_store.specs.declared.command.Command.{Command}
 use Rattle.rib_store.specs.declared.command.Command.TheVariants as command
-use Rattle.route_lang.specs.Asked.{agrees, agreeing, destination_of, gateway_of, address_asked, path_by, path_of, path_asked, add_of, change_of, delete_of, algo_of, is_inet6, tick_of, get_of, in_family, flush_of, asked_by, by_verb, by_command, by_words, asked_of, requested}
-use Rattle.route_lang.specs.Grammar.{◌>>=◌, or_reason, OptionRow, Part, parts_of, bare_words, told, is_by, number_by, value_or, faults_behind, extent_agrees, with_extent, destination_in, gateway_by, gateway_in, path_by_told, path_in, is_of_inet6, of_family, added, changed, deleted, setting_of, module_set, address_in, looked_up, flushed, ticked, CommandRow, add_row, change_row, delete_row, get_row, flush_row, tick_row, sync_row, algo_row, command_rows, is_taken, is_comment, from_command, unless_refused, row_asks, command_asks, words_ask, asked_for}
+use Rattle.route_lang.specs.Reader.Asked.{agrees, agreeing, destination_of, gateway_of, address_asked, path_by, path_of, path_asked, add_of, change_of, delete_of, algo_of, is_inet6, tick_of, get_of, in_family, flush_of, asked_by, by_verb, by_command, by_words, asked_of, requested}
+use Rattle.route_lang.specs.Grammar.{◌>>=◌, or_reason, OptionRow, Part, parts_of, bare_words, told, is_by, number_by, value_or, faults_behind, extent_agrees, with_extent, destination_in, gateway_by, gateway_in, path_by_told, path_in, is_of_inet6, of_family, added, changed, deleted, setting_of, module_set, address_in, looked_up, flushed, ticked, CommandRow, command_rows, is_taken, is_comment, from_command, unless_faulty, row_asks, command_asks, words_ask, asked_for}
 use Rattle.route_lang.specs.Limits.{lines_limit, line_limit}
 use Rattle.route_lang.specs.Request.{Request, OfInet, OfInet6, OfBoth, LookUp, LookUp6, Flush, Tick}
 use Rattle.route_lang.specs.Text.{words_of}
-use Rattle.route_lang.specs.Verb.{verb_of}
-use Rattle.route_lang.specs.Walk.{Met, nothing_met, walk_from}
+use Rattle.route_lang.specs.Reader.Verb.{verb_of}
+use Rattle.route_lang.specs.Reader.Walk.{Met, nothing_met, walk_from}
 use Rattle.route_lang.specs.declared.asked.Asked.{Asked}
 use Rattle.route_lang.specs.declared.asked.Asked.TheVariants.{Nothing, Inet, Inet6, Both, Get4, Get6}
 use Rattle.route_lang.specs.declared.asked.Shared.TheVariants as shared
@@ -217,7 +217,7 @@ module _ (met : Met) (parts : List Part) (h : Stands met parts) where
 
 -- ---- a line
 
-walk_same : (v : Verb) (r : Result Met Reason) (o : Option Reason) (parts : List Part) → Steps r o parts → requested (r >>= asked_by v) ≡ some_asked (unless_refused o ((command_row v).asks parts))
+walk_same : (v : Verb) (r : Result Met Reason) (o : Option Reason) (parts : List Part) → Steps r o parts → requested (r >>= asked_by v) ≡ some_asked (unless_faulty o ((command_row v).asks parts))
 walk_same v (Ok met) None parts h = asked_same met parts h v
 walk_same v (Err why) (Some reason) parts h = ap Err h
 walk_same v (Ok met) (Some reason) parts h = absurd h
@@ -240,7 +240,7 @@ row_is word = choice (bytes_eq word (codes "add")) (bytes_eq word (codes "change
   where
     choice : (a b c d e f g h : Bool)
         → RowIs (cond a (Some verb.Add) (cond b (Some verb.Change) (cond c (Some verb.Delete) (cond d (Some verb.Get) (cond e (Some verb.Flush) (cond f (Some verb.Tick) (cond g (Some verb.Sync) (cond h (Some verb.Algo) None))))))))
-        (cond a (Some add_row) (cond b (Some change_row) (cond c (Some delete_row) (cond d (Some get_row) (cond e (Some flush_row) (cond f (Some tick_row) (cond g (Some sync_row) (cond h (Some algo_row) None))))))))
+        (cond a (Some (command_row verb.Add)) (cond b (Some (command_row verb.Change)) (cond c (Some (command_row verb.Delete)) (cond d (Some (command_row verb.Get)) (cond e (Some (command_row verb.Flush)) (cond f (Some (command_row verb.Tick)) (cond g (Some (command_row verb.Sync)) (cond h (Some (command_row verb.Algo)) None))))))))
     choice true b c d e f g h = refl
     choice false true c d e f g h = refl
     choice false false true d e f g h = refl

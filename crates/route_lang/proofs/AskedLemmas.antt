@@ -17,10 +17,10 @@ use Rattle.addr_text.specs.PrefixText.{block_of}
 use Rattle.rib_store.specs.declared.command.Command.{Command}
 use Rattle.rib_store.specs.declared.command.Command.TheVariants as command
 use Rattle.route_lang.specs.Text.{words_of}
-use Rattle.route_lang.specs.Verb.{verb_of, token_of, bare_words, within_range, least_value, greatest_value}
-use Rattle.route_lang.specs.Walk.{Met, nothing_met, is_given, set_flag, set_value, with_flag, with_parsed, with_value, without_value, with_bare, put_bare, at_end, along, walk_from}
+use Rattle.route_lang.specs.Reader.Verb.{verb_of, token_of, bare_words, within_range, least_value, greatest_value}
+use Rattle.route_lang.specs.Reader.Walk.{Met, nothing_met, is_given, set_flag, set_value, with_flag, with_parsed, with_value, without_value, with_bare, put_bare, at_end, along, walk_from}
 use Rattle.route_lang.specs.Grammar.{◌>>=◌}
-use Rattle.route_lang.specs.Asked.{agrees, agreeing, destination_of, gateway_of, address_asked, path_by, path_of, path_asked, add_of, change_of, delete_of, IsModuleOf, algo_of, is_inet6, get_of, in_family, flush_of, asked_by, by_verb, by_command, by_words, asked_of}
+use Rattle.route_lang.specs.Reader.Asked.{agrees, agreeing, destination_of, gateway_of, address_asked, path_by, path_of, path_asked, add_of, change_of, delete_of, IsModuleOf, algo_of, is_inet6, get_of, in_family, flush_of, asked_by, by_verb, by_command, by_words, asked_of}
 use Rattle.route_lang.specs.Grammar.{or_reason, gateway_by, value_or, dropping, leading, setting_of, is_taken, is_comment, from_command}
 use Rattle.route_lang.proofs.BoundLemmas.{address_fits, number_fits, family_bounds, block_fits}
 use Rattle.route_lang.proofs.SpellingLemmas.{IsPath}

@@ -15,12 +15,12 @@ use Rattle.addr_text.proofs.PrefixTextLemmas.{reads_back_prefix}
 use Rattle.rib_store.specs.declared.command.Command.{Command}
 use Rattle.rib_store.specs.declared.command.Command.TheVariants as command
 use Rattle.route_lang.specs.Text.{words_of}
-use Rattle.route_lang.specs.Verb.{verb_of, token_of}
-use Rattle.route_lang.specs.Walk.{Met, nothing_met, walk_from}
+use Rattle.route_lang.specs.Reader.Verb.{verb_of, token_of}
+use Rattle.route_lang.specs.Reader.Walk.{Met, nothing_met, walk_from}
 use Rattle.route_lang.specs.Grammar.{◌>>=◌}
-use Rattle.route_lang.specs.Asked.{asked_of, by_words, asked_by, destination_of, gateway_of, path_asked, IsModuleOf}
+use Rattle.route_lang.specs.Reader.Asked.{asked_of, by_words, asked_by, destination_of, gateway_of, path_asked, IsModuleOf}
 use Rattle.route_lang.specs.Grammar.{is_comment}
-use Rattle.route_lang.specs.Reader.{shared_command}
+use Rattle.route_lang.specs.Reader.Lines.{shared_command}
 use Rattle.route_lang.specs.Spelling.{family_word, option_words, target_words, route_words, gateway_words, module_word, command_words, shared_words, get_words, joined}
 use Rattle.route_lang.proofs.AddressWordLemmas.{address_is_bare, decimal_is_word, digits_no_dash, prefix_is_word}
 use Rattle.route_lang.proofs.WordsLemmas.{is_word, words_of-joined, taken-joined}

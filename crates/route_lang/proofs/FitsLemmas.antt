@@ -6,13 +6,13 @@ use Rattle.std.proofs.lemmas.List.{drop_more}
 use Rattle.std.proofs.Math.Seq.{get_or-append_seam}
 use Rattle.rib_store.specs.declared.command.Command.{Command}
 use Rattle.rib_store.specs.declared.command.Command.TheVariants as command
-use Rattle.route_lang.specs.Asked.{asked_of}
+use Rattle.route_lang.specs.Reader.Asked.{asked_of}
 use Rattle.route_lang.proofs.AskedLemmas.{IsAskedAt, asked_at}
 use Rattle.route_lang.proofs.CommandLemmas.{IsCommand}
 use Rattle.rib_store.specs.Plan.{Planned}
-use Rattle.route_lang.specs.Reader.{shared_command, plans_behind, entries_of, with_front, then_lines, lines_from, no_plans}
+use Rattle.route_lang.specs.Reader.Lines.{shared_command, plans_behind, entries_of, with_front, then_lines, lines_from, no_plans}
 use Rattle.route_lang.specs.Script.{Reading, is_quiet, command_line}
-use Rattle.route_lang.specs.Asked.{shared_request}
+use Rattle.route_lang.specs.Reader.Asked.{shared_request}
 use Rattle.route_lang.specs.Fits.{Positions, behind, positions_behind, Rises, HasAt, FitsLine, Fits, HasCommands, is_algo, IsScript}
 use Rattle.route_lang.specs.declared.asked.Asked.{Asked}
 use Rattle.route_lang.specs.declared.asked.Asked.TheVariants.{Nothing, Inet, Inet6, Both, Get4, Get6}

@@ -5,11 +5,11 @@ use Rattle.prefix_width.specs.Prefix.{IsBlock}
 use Rattle.route_lang.specs.declared.asked.Asked.{Asked}
 use Rattle.route_lang.specs.declared.line.Line.{Line}
 use Rattle.route_lang.specs.declared.script.Plans.{Plans}
-use Rattle.route_lang.specs.Reader.{plans_behind, entries_of, no_plans}
+use Rattle.route_lang.specs.Reader.Lines.{plans_behind, entries_of, no_plans}
 use Rattle.route_lang.specs.Script.{Reading}
 use Rattle.route_lang.specs.Fits.{IsScript}
 use Rattle.route_lang.specs.Generator.{next_state, state_after, draw, drawn_prefix, drawn_path}
-use Rattle.route_lang.specs.ReaderDraws.{AskedDraw, asked_line, led_by, generated_from, script_drawn}
+use Rattle.route_lang.specs.Reader.Draws.{AskedDraw, asked_line, led_by, generated_from, script_drawn}
 use Rattle.route_lang.specs.Limits.{lines_limit}
 use Rattle.route_lang.proofs.BoundLemmas.{masked_fits}
 use Rattle.route_lang.proofs.SpellingLemmas.{IsPath}

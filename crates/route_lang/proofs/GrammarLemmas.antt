@@ -6,9 +6,10 @@ use Rattle.std.specs.Option.{option_or}
 use Rattle.std.proofs.lemmas.Bool.Decides.{nat_tests}
 use Rattle.std.proofs.lemmas.List.Elements.{filter_map-append}
 use Rattle.addr_text.specs.Number.{number_of}
-use Rattle.route_lang.specs.Grammar.{◌>>=◌, OptionRow, plain, valued, Numbers, Part, Bare, Given, Unknown, begins_with_dash, option_named, last_part, word_parts, given_parts, parts_of, bare_in, bare_words, telling, told, is_in, value_fault, part_fault, faults_behind, of_family, CommandRow, add_row, change_row, delete_row, get_row, flush_row, tick_row, sync_row, algo_row}
-use Rattle.route_lang.specs.Verb.{flag_of, own_flag, token_of, takes_value, least_value, greatest_value, within_range, value_of}
-use Rattle.route_lang.specs.Walk.{Met, nothing_met, is_given, set_flag, set_value, with_flag, with_parsed, with_value, without_value, put_bare, with_bare, at_end, along, walk_from}
+use Rattle.route_lang.specs.Grammar.{◌>>=◌, OptionRow, plain, valued, Numbers, Part, Bare, Given, Unknown, begins_with_dash, option_named, last_part, word_parts, given_parts, parts_of, bare_in, bare_words, telling, told, is_in, value_fault, part_fault, faults_behind, of_family, CommandRow, row, family_options, extent_options, path_options, added, changed, deleted, looked_up, flushed, ticked, module_set}
+use Rattle.route_lang.specs.Request.{OfBoth, Sync}
+use Rattle.route_lang.specs.Reader.Verb.{flag_of, own_flag, token_of, takes_value, least_value, greatest_value, within_range, value_of}
+use Rattle.route_lang.specs.Reader.Walk.{Met, nothing_met, is_given, set_flag, set_value, with_flag, with_parsed, with_value, without_value, put_bare, with_bare, at_end, along, walk_from}
 use Rattle.route_lang.specs.declared.fault.Reason.{Reason}
 use Rattle.route_lang.specs.declared.fault.Reason.TheVariants.{UnknownOption, Repeated, MissingWord, BadNumber, ExtraWord}
 use Rattle.route_lang.specs.declared.verb.Verb.{Verb}
@@ -33,14 +34,14 @@ option_row flag.Reject = plain (codes "-reject") (codes "discard")
 option_row flag.Flow = valued (codes "flow") 0 4294967295
 
 abbrev pub command_row : Verb → CommandRow
-command_row verb.Add = add_row
-command_row verb.Change = change_row
-command_row verb.Delete = delete_row
-command_row verb.Get = get_row
-command_row verb.Flush = flush_row
-command_row verb.Tick = tick_row
-command_row verb.Sync = sync_row
-command_row verb.Algo = algo_row
+command_row verb.Add = row (codes "add") 2 (family_options ++ (extent_options ++ path_options)) (λ parts. of_family parts (added 32 parts) (added 128 parts))
+command_row verb.Change = row (codes "change") 2 (family_options ++ (extent_options ++ path_options)) (λ parts. of_family parts (changed 32 parts) (changed 128 parts))
+command_row verb.Delete = row (codes "delete") 2 (family_options ++ extent_options) (λ parts. of_family parts (deleted 32 parts) (deleted 128 parts))
+command_row verb.Get = row (codes "get") 1 (family_options ++ valued (codes "flow") 0 4294967295 ∷ []) looked_up
+command_row verb.Flush = row (codes "flush") 0 family_options flushed
+command_row verb.Tick = row (codes "tick") 1 [] ticked
+command_row verb.Sync = row (codes "sync") 0 [] (λ parts. Ok (OfBoth Sync))
+command_row verb.Algo = row (codes "algo") 1 family_options (λ parts. of_family parts (module_set 32 parts) (module_set 128 parts))
 
 -- ---- words
 

@@ -5,9 +5,9 @@ use Rattle.std.proofs.lemmas.Bool.Decides.{nat_tests}
 use Rattle.std.proofs.lemmas.List.Concat.{flat_map-cons}
 use Rattle.rib_store.specs.declared.command.Command.{Command}
 use Rattle.route_lang.specs.Text.{lines_of}
-use Rattle.route_lang.specs.Asked.{asked_of}
+use Rattle.route_lang.specs.Reader.Asked.{asked_of}
 use Rattle.rib_store.specs.Plan.{Planned}
-use Rattle.route_lang.specs.Reader.{shared_command, plans_behind, entries_of, with_front, then_lines, lines_from, no_plans, script_read}
+use Rattle.route_lang.specs.Reader.Lines.{shared_command, plans_behind, entries_of, with_front, then_lines, lines_from, no_plans, script_read}
 use Rattle.route_lang.specs.Script.{Reading, is_quiet, command_line, script_of}
 use Rattle.route_lang.proofs.AgreementLemmas.{script_agrees}
 use Rattle.route_lang.specs.Spelling.{words_if, words_at, line_words, command_words, shared_words, joined, spelled_line, spelled, numbered, numbered_from, renumbered, ShownTextReadsBack}

@@ -11,9 +11,9 @@ use Rattle.route_lang.specs.declared.fault.LineFault.{LineFault}
 use Rattle.route_lang.specs.declared.fault.ScriptError.{ScriptError}
 use Rattle.route_lang.specs.declared.fault.ScriptError.TheVariants as script_error
 use Rattle.route_lang.specs.declared.script.Plans.{Plans}
-use Rattle.route_lang.specs.Asked.{asked_of}
+use Rattle.route_lang.specs.Reader.Asked.{asked_of}
 use Rattle.route_lang.specs.Limits.{input_limit}
-use Rattle.route_lang.specs.Reader.{plans_behind, entries_of, shared_command, with_front, lines_from, no_plans, script_read, TakesLine, RefusesLine, HasAtMost}
+use Rattle.route_lang.specs.Reader.Lines.{plans_behind, entries_of, shared_command, with_front, lines_from, no_plans, script_read, TakesLine, RefusesLine, HasAtMost}
 use Rattle.route_lang.specs.Script.{Reading, GivesScript}
 use Rattle.route_lang.specs.Text.{lines_of}
 

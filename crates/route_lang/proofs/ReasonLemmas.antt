@@ -17,13 +17,13 @@ use Rattle.route_lang.specs.declared.verb.Flag.{Flag}
 use Rattle.route_lang.specs.declared.verb.Flag.TheVariants as flag
 use Rattle.route_lang.specs.declared.verb.Token.{Token}
 use Rattle.route_lang.specs.declared.verb.Token.TheVariants.{Bare, Plain, Valued}
-use Rattle.route_lang.specs.Walk.{Met, with_flag, with_value, with_parsed, without_value, with_bare, put_bare, at_end, along, walk_from}
+use Rattle.route_lang.specs.Reader.Walk.{Met, with_flag, with_value, with_parsed, without_value, with_bare, put_bare, at_end, along, walk_from}
 use Rattle.route_lang.specs.Grammar.{◌>>=◌}
 use Rattle.addr_text.specs.PrefixText.{block_of}
-use Rattle.route_lang.specs.Verb.{token_of, bare_words}
-use Rattle.route_lang.specs.Asked.{destination_of, agreeing, agrees, gateway_of, address_asked, path_by, path_of, path_asked, add_of, change_of, delete_of, setting_asked, algo_of, tick_of, get_of, in_family, flush_of, asked_by, by_verb, by_command, by_words, asked_of}
+use Rattle.route_lang.specs.Reader.Verb.{token_of, bare_words}
+use Rattle.route_lang.specs.Reader.Asked.{destination_of, agreeing, agrees, gateway_of, address_asked, path_by, path_of, path_asked, add_of, change_of, delete_of, setting_asked, algo_of, tick_of, get_of, in_family, flush_of, asked_by, by_verb, by_command, by_words, asked_of}
 use Rattle.route_lang.specs.Grammar.{or_reason, gateway_by, leading, from_command}
-use Rattle.route_lang.specs.Reader.{then_lines, with_front, lines_from, no_plans, plans_behind, entries_of}
+use Rattle.route_lang.specs.Reader.Lines.{then_lines, with_front, lines_from, no_plans, plans_behind, entries_of}
 use Rattle.route_lang.specs.Script.{Reading, GivesScript, input_too_large, script_of}
 use Rattle.route_lang.proofs.AgreementLemmas.{script_agrees}
 

@@ -13,10 +13,10 @@ use Rattle.addr_text.specs.PrefixText.{prefix_text}
 use Rattle.addr_text.proofs.NumberLemmas.{number_of-decimal}
 use Rattle.addr_text.proofs.PrefixTextLemmas.{reads_back_prefix}
 use Rattle.addr_text.proofs.AddressLemmas.{reads_back_ipv4, reads_back_ipv6}
-use Rattle.route_lang.specs.Verb.{token_of, bare_words, value_of, least_value, greatest_value}
+use Rattle.route_lang.specs.Reader.Verb.{token_of, bare_words, value_of, least_value, greatest_value}
 use Rattle.route_lang.specs.Grammar.{begins_with_dash}
-use Rattle.route_lang.specs.Walk.{Met, is_given, set_value, with_flag, walk_from}
-use Rattle.route_lang.specs.Asked.{destination_of, path_asked}
+use Rattle.route_lang.specs.Reader.Walk.{Met, is_given, set_value, with_flag, walk_from}
+use Rattle.route_lang.specs.Reader.Asked.{destination_of, path_asked}
 use Rattle.route_lang.specs.Grammar.{value_or}
 use Rattle.route_lang.specs.Spelling.{option_words, setting_words, target_words}
 use Rattle.route_lang.proofs.AddressWordLemmas.{address_is_bare, decimal_is_word, prefix_is_word}

@@ -1,5 +1,4 @@
--- The grammar of a line: the options with their values, the commands with their bare words and options, and what the words
--- of a line ask for. Of the reasons against a line the first is told.
+-- The grammar of a line: options, commands, and what the words of a line ask for, or the first reason against them.
 use Rattle.std.specs.Prelude.{ℕ, ◌==◌, ◌||◌, ◌&&◌, not, nat_lt, nat_le, Bool, true, false, List, [], ◌∷◌, ◌++◌, length, Option, Some, None, is_some, option_map, option_and_then, Result, Ok, Err, slice_get, slice_index, bytes_eq, codes, if◌then◌else◌}
 use Rattle.std.specs.List.{cons_option, filter_map, find, list_all, list_any}
 use Rattle.prefix_width.specs.Prefix.{Block}
@@ -21,7 +20,6 @@ use Rattle.route_lang.specs.declared.fault.Reason.{Reason}
 use Rattle.route_lang.specs.declared.fault.Reason.TheVariants.{TooManyLines, LineTooLong, BadByte, UnknownCommand, UnknownOption, Repeated, MissingWord, BadNumber, ExtraWord, BadAddress, BadLength, NoTarget, NoModule}
 
 -- ---- reasons in turn
-
 -- what comes next, unless there is a reason already
 infixl 10 ◌>>=◌
 abbrev pub ◌>>=◌ : {A B : Type 0} → Result A Reason → (A → Result B Reason) → Result B Reason
@@ -33,8 +31,12 @@ abbrev pub or_reason : {A : Type 0} → Reason → Option A → Result A Reason
 or_reason reason None = Err reason
 or_reason reason (Some x) = Ok x
 
--- ---- options
+-- what there is, unless a fault is found
+abbrev pub unless_faulty : {A E : Type 0} → Option E → Result A E → Result A E
+unless_faulty None made = made
+unless_faulty (Some fault) made = Err fault
 
+-- ---- options
 -- the least and the greatest of the numbers that an option takes
 pub record Numbers : Type 0 where
   pub least : ℕ
@@ -64,11 +66,7 @@ path_options =
     valued (codes "-if") 1 65535 ∷ valued (codes "-mtu") 1 4294967295 ∷ valued (codes "-weight") 1 16777215
     ∷ plain (codes "-blackhole") (codes "discard") ∷ plain (codes "-reject") (codes "discard") ∷ []
 
-abbrev pub flow_options : List OptionRow
-flow_options = valued (codes "flow") 0 4294967295 ∷ []
-
 -- ---- the words behind a command
-
 -- a bare word, an option with the word behind it if it takes a value, or an option that the command hasn't
 pub data Part : Type 0 where
   Bare : (word : List ℕ) → Part
@@ -107,7 +105,6 @@ parts_of options (word ∷ next ∷ words) =
     word_parts word next (option_named options word) (parts_of options (next ∷ words)) (parts_of options words)
 
 -- ---- what parts tell
-
 abbrev pub bare_in : Part → Option (List ℕ)
 bare_in (Bare word) = Some word
 bare_in part = None
@@ -140,7 +137,6 @@ value_or absent None = absent
 value_or absent (Some n) = n
 
 -- ---- reasons against parts
-
 abbrev pub is_in : Numbers → Option ℕ → Bool
 is_in numbers None = false
 is_in numbers (Some n) = nat_le numbers.least n && nat_le n numbers.most
@@ -162,7 +158,6 @@ faults_behind most earlier [] = []
 faults_behind most earlier (part ∷ later) = cons_option (part_fault most earlier part) (faults_behind most (earlier ++ part ∷ []) later)
 
 -- ---- destination and path
-
 -- whether a destination is an address alone
 abbrev pub is_alone : List ℕ → Bool
 is_alone word = not (bytes_eq word (codes "default") || list_any is_slash word)
@@ -216,7 +211,6 @@ path_in w parts =
     >>= path_by_told (told (codes "discard") parts) (number_by (told (codes "-if") parts)) (number_by (told (codes "-mtu") parts)) (number_by (told (codes "-weight") parts))
 
 -- ---- commands
-
 abbrev pub is_of_inet6 : List Part → Bool
 is_of_inet6 parts = is_by (codes "-inet6") (told (codes "family") parts)
 
@@ -270,50 +264,22 @@ pub record CommandRow : Type 0 where
   pub options : List OptionRow
   pub asks : List Part → Result Request Reason
 
-abbrev pub add_row : CommandRow
-add_row = record {
-  word = codes "add";
-  most = 2;
-  options = family_options ++ (extent_options ++ path_options);
-  asks = λ parts. of_family parts (added 32 parts) (added 128 parts);
-}
-
-abbrev pub change_row : CommandRow
-change_row = record {
-  word = codes "change";
-  most = 2;
-  options = family_options ++ (extent_options ++ path_options);
-  asks = λ parts. of_family parts (changed 32 parts) (changed 128 parts);
-}
-
-abbrev pub delete_row : CommandRow
-delete_row = record {
-  word = codes "delete";
-  most = 2;
-  options = family_options ++ extent_options;
-  asks = λ parts. of_family parts (deleted 32 parts) (deleted 128 parts);
-}
-
-abbrev pub get_row : CommandRow
-get_row = record { word = codes "get"; most = 1; options = family_options ++ flow_options; asks = looked_up }
-
-abbrev pub flush_row : CommandRow
-flush_row = record { word = codes "flush"; most = 0; options = family_options; asks = flushed }
-
-abbrev pub tick_row : CommandRow
-tick_row = record { word = codes "tick"; most = 1; options = []; asks = ticked }
-
-abbrev pub sync_row : CommandRow
-sync_row = record { word = codes "sync"; most = 0; options = []; asks = λ parts. Ok (OfBoth Sync) }
-
-abbrev pub algo_row : CommandRow
-algo_row = record { word = codes "algo"; most = 1; options = family_options; asks = λ parts. of_family parts (module_set 32 parts) (module_set 128 parts) }
+abbrev pub row : List ℕ → ℕ → List OptionRow → (List Part → Result Request Reason) → CommandRow
+row word most options asks = record { word = word; most = most; options = options; asks = asks }
 
 abbrev pub command_rows : List CommandRow
-command_rows = add_row ∷ change_row ∷ delete_row ∷ get_row ∷ flush_row ∷ tick_row ∷ sync_row ∷ algo_row ∷ []
+command_rows =
+    row (codes "add") 2 (family_options ++ (extent_options ++ path_options)) (λ parts. of_family parts (added 32 parts) (added 128 parts))
+    ∷ row (codes "change") 2 (family_options ++ (extent_options ++ path_options)) (λ parts. of_family parts (changed 32 parts) (changed 128 parts))
+    ∷ row (codes "delete") 2 (family_options ++ extent_options) (λ parts. of_family parts (deleted 32 parts) (deleted 128 parts))
+    ∷ row (codes "get") 1 (family_options ++ valued (codes "flow") 0 4294967295 ∷ []) looked_up
+    ∷ row (codes "flush") 0 family_options flushed
+    ∷ row (codes "tick") 1 [] ticked
+    ∷ row (codes "sync") 0 [] (λ parts. Ok (OfBoth Sync))
+    ∷ row (codes "algo") 1 family_options (λ parts. of_family parts (module_set 32 parts) (module_set 128 parts))
+    ∷ []
 
 -- ---- the line
-
 -- a byte of a line that is no comment
 abbrev pub is_taken : ℕ → Bool
 is_taken byte = is_blank byte || (nat_le 33 byte && nat_le byte 126)
@@ -335,14 +301,10 @@ abbrev pub from_command : List (List ℕ) → List (List ℕ)
 from_command [] = []
 from_command (word ∷ words) = if bytes_eq word (codes "route") then behind_ignored words else word ∷ words
 
-abbrev pub unless_refused : Option Reason → Result Request Reason → Result Request Reason
-unless_refused None asked = asked
-unless_refused (Some reason) asked = Err reason
-
 -- the words behind a command: the first reason against one of their parts, else what they ask for
 abbrev pub row_asks : List (List ℕ) → CommandRow → Result Request Reason
 row_asks words row =
-    unless_refused (slice_get (faults_behind row.most [] (parts_of row.options words)) 0) (row.asks (parts_of row.options words))
+    unless_faulty (slice_get (faults_behind row.most [] (parts_of row.options words)) 0) (row.asks (parts_of row.options words))
 
 abbrev pub command_asks : List (List ℕ) → Result Request Reason
 command_asks [] = Err MissingWord

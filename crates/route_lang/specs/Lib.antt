@@ -1,4 +1,3 @@
-pub mod Asked
 pub mod Fault
 pub mod Fits
 pub mod Generator
@@ -6,10 +5,7 @@ pub mod Grammar
 pub mod Laws
 pub mod Limits
 pub mod Reader
-pub mod ReaderDraws
 pub mod Request
 pub mod Script
 pub mod Spelling
 pub mod Text
-pub mod Verb
-pub mod Walk

@@ -1,5 +1,4 @@
--- Script grammar: a text is the plans of both families and the lines that speak of them, or its first faulty line
--- with the first reason against it.
+-- A script: the plans of both families and the lines that speak of them, or the first faulty line and the reason against it.
 use Rattle.std.specs.Prelude.{◌≡◌, ℕ, Bool, true, false, nat_lt, List, [], ◌∷◌, ◌++◌, length, slice_get, Option, Some, None, Result, Ok, Err, if◌then◌else◌}
 use Rattle.std.specs.List.{enumerate_from, filter_map, flat_map}
 use Rattle.rib_store.specs.declared.command.Command.{Command}
@@ -7,7 +6,7 @@ use Rattle.rib_store.specs.declared.command.Command.TheVariants as command
 use Rattle.rib_store.specs.Plan.{Planned}
 use Rattle.route_lang.specs.Limits.{input_limit}
 use Rattle.route_lang.specs.Request.{Request, OfInet, OfInet6, OfBoth, LookUp, LookUp6, command_of}
-use Rattle.route_lang.specs.Grammar.{asked_for}
+use Rattle.route_lang.specs.Grammar.{asked_for, unless_faulty}
 use Rattle.route_lang.specs.Text.{lines_of}
 use Rattle.route_lang.specs.declared.line.Line.{Line}
 use Rattle.route_lang.specs.declared.line.Line.TheVariants as line
@@ -24,7 +23,6 @@ pub record Reading : Type 0 where
   pub lines : List Line
 
 -- ---- the plans
-
 -- the commands that a request has for a family
 abbrev pub inet_commands : Request → List (Command 32)
 inet_commands (OfInet c) = c ∷ []
@@ -44,7 +42,6 @@ abbrev pub inet6_plan : List (ℕ × Request) → Planned 128
 inet6_plan asked = record { commands = flat_map (λ here. inet6_commands here.1) asked }
 
 -- ---- the lines
-
 -- a command that asks nothing of the table
 abbrev pub is_quiet : {w : ℕ} → Command w → Bool
 is_quiet (command.Tick ms) = true
@@ -78,7 +75,6 @@ abbrev pub made_of : List (ℕ × Request) → Reading
 made_of asked = record { inet = inet_plan asked; inet6 = inet6_plan asked; lines = lines_behind [] asked }
 
 -- ---- a text
-
 -- the fault of a line that is refused
 abbrev pub fault_at : ℕ → Result (Option Request) Reason → Option LineFault
 fault_at number (Ok asked) = None
@@ -95,14 +91,9 @@ fault_of here = fault_at here.0 (asked_for here.0 here.1)
 abbrev pub request_of : ℕ × List ℕ → Option (ℕ × Request)
 request_of here = request_at here.0 (asked_for here.0 here.1)
 
--- a fault, where there is one, in the place of a script
-abbrev pub unless_faulty : Option LineFault → Reading → Result Reading LineFault
-unless_faulty None script = Ok script
-unless_faulty (Some fault) script = Err fault
-
 -- the script of lines with these numbers: the fault of the first that is faulty, else what all ask for
 abbrev pub script_from : List (ℕ × List ℕ) → Result Reading LineFault
-script_from lines = unless_faulty (slice_get (filter_map fault_of lines) 0) (made_of (filter_map request_of lines))
+script_from lines = unless_faulty (slice_get (filter_map fault_of lines) 0) (Ok (made_of (filter_map request_of lines)))
 
 -- the fault of bytes that are too many
 abbrev pub input_too_large : LineFault

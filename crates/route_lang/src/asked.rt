@@ -4,9 +4,9 @@ ghost use Rattle.std.specs.List.{list_any};
 ghost use Rattle.addr_text.specs.Address.{IsFamilyWidth};
 ghost use Rattle.addr_text.specs.PrefixText.{is_slash};
 ghost use Rattle.rib_store.specs.Plan.{IsWrongModule};
-ghost use Rattle.route_lang.specs.Asked.{agrees, destination_of, gateway_of, address_asked, path_asked, add_of, change_of, delete_of, setting_asked, IsModuleOf, algo_of, tick_of, get_of, asked_by, HasOwnModule};
+ghost use Rattle.route_lang.specs.Reader.Asked.{agrees, destination_of, gateway_of, address_asked, path_asked, add_of, change_of, delete_of, setting_asked, IsModuleOf, algo_of, tick_of, get_of, asked_by, HasOwnModule};
 ghost use Rattle.route_lang.specs.Grammar.{is_alone, leading, value_or, setting_of};
-ghost use Rattle.route_lang.specs.Walk.{met_by, InRange};
+ghost use Rattle.route_lang.specs.Reader.Walk.{met_by, InRange};
 
 use crate::fault::Reason;
 use crate::verb::{Flag, Verb};

@@ -1,9 +1,9 @@
 //! Scripts that are drawn.
 ghost use Rattle.std.specs.Prelude.{◌≡◌, ◌≤◌, IfOk};
-ghost use Rattle.route_lang.specs.Asked.{HasOwnModule};
+ghost use Rattle.route_lang.specs.Reader.Asked.{HasOwnModule};
 ghost use Rattle.route_lang.specs.Generator.{next_state, state_after, draw, drawn_prefix, drawn_path, generated};
 ghost use Rattle.route_lang.specs.Limits.{lines_limit};
-ghost use Rattle.route_lang.specs.ReaderDraws.{asked_line};
+ghost use Rattle.route_lang.specs.Reader.Draws.{asked_line};
 
 use crate::OutOfMemory;
 use crate::asked::{Asked, Shared};

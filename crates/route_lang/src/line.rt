@@ -65,7 +65,7 @@ impl Lines {
         self.lines.len()
     }
 
-    /// The line of a number, counted from 0.
+    /// The line of a number, counted from 0. The number is below theirs.
     pub fn get(&self, i: usize) -> &Line
         requires { i < length self.now }
         ensures { slice_get self.now i ≡ Some result.now }

@@ -1,7 +1,7 @@
 //! One line is read.
 ghost use Rattle.std.specs.Prelude.{◌≡◌, ◌∷◌, [], ◌≤◌, IfOk, OnOk, MatchOption};
 ghost use Rattle.std.specs.List.{list_all};
-ghost use Rattle.route_lang.specs.Asked.{asked_of, by_words, HasOwnModule};
+ghost use Rattle.route_lang.specs.Reader.Asked.{asked_of, by_words, HasOwnModule};
 ghost use Rattle.route_lang.specs.Grammar.{from_command, behind_ignored, is_comment, is_ignored, is_taken};
 ghost use Rattle.route_lang.specs.Limits.{lines_limit};
 ghost use Rattle.route_lang.specs.Text.{words_of};
@@ -11,7 +11,7 @@ use crate::fault::Reason;
 use crate::script::{LINE_MAX, LINES_MAX};
 use crate::text::{is_blank, next_word};
 use crate::verb::Verb;
-use crate::walk::{Walk, walk_on};
+use crate::walk::walk_over;
 
 /// What the line of a number asks for, or the first reason against it.
 pub(crate) fn read_line(number: u32, line: &[u8]) -> Result<Asked, Reason>
@@ -25,15 +25,15 @@ pub(crate) fn read_line(number: u32, line: &[u8]) -> Result<Asked, Reason>
     if line.len() > LINE_MAX {
         return Err(Reason::LineTooLong);
     }
-    read_words(line)
+    request_of(line)
 }
 
 /// What the words of a line ask for.
-fn read_words(line: &[u8]) -> Result<Asked, Reason>
+fn request_of(line: &[u8]) -> Result<Asked, Reason>
     ensures value { result ≡ by_words line.now (words_of line.now) }
     ensures module { IfOk result HasOwnModule }
 {
-    let Some((first, _)) = next_word(line) else {
+    let Some((first, words)) = next_word(line) else {
         return Ok(Asked::Nothing);
     };
     if is_comment(first) {
@@ -42,13 +42,13 @@ fn read_words(line: &[u8]) -> Result<Asked, Reason>
     if !are_taken(line) {
         return Err(Reason::BadByte);
     }
-    let Some((word, words)) = from_command(line) else {
+    let Some((word, words)) = from_command(first, words) else {
         return Err(Reason::MissingWord);
     };
     let Some(verb) = Verb::of(word) else {
         return Err(Reason::UnknownCommand);
     };
-    let met = walk_on(verb, Walk::new(), words)?;
+    let met = walk_over(verb, words)?;
     asked_by(verb, &met)
 }
 
@@ -63,7 +63,12 @@ pub(crate) fn is_comment(word: &[u8]) -> bool
 fn are_taken(line: &[u8]) -> bool
     ensures { result ≡ list_all is_taken line.now }
 {
-    line.iter().all(|byte| is_taken(*byte))
+    let mut taken = true;
+    // Without an early end several bytes are tested at once.
+    'bytes: for byte in line {
+        taken &= is_taken(*byte);
+    }
+    taken
 }
 
 fn is_taken(byte: u8) -> bool
@@ -72,11 +77,10 @@ fn is_taken(byte: u8) -> bool
     is_blank(byte) || (0x21 <= byte && byte <= 0x7e)
 }
 
-/// The command word of a line, and what comes behind it.
-fn from_command(line: &[u8]) -> Option<(&[u8], &[u8])>
-    ensures { MatchOption result (from_command (words_of line.now) ≡ []) (λ next. from_command (words_of line.now) ≡ next.0.now ∷ words_of next.1.now) }
+/// The command word of a line that begins with this word, and what comes behind it.
+fn from_command<'a>(first: &'a [u8], words: &'a [u8]) -> Option<(&'a [u8], &'a [u8])>
+    ensures { MatchOption result (from_command (first.entry.now ∷ words_of words.entry.now) ≡ []) (λ next. from_command (first.entry.now ∷ words_of words.entry.now) ≡ next.0.now ∷ words_of next.1.now) }
 {
-    let (first, words) = next_word(line)?;
     if first == b"route".as_slice() {
         return behind_ignored(words);
     }

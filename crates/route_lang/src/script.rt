@@ -3,10 +3,10 @@ ghost use Rattle.std.specs.Prelude.{◌≡◌, ◌↔◌, ◌<◌, ◌≤◌, �
 ghost use Rattle.std.specs.Arc.{arc_value};
 ghost use Rattle.rib_store.specs.Limits.{plan_max};
 ghost use Rattle.rib_store.specs.Plan.{IsWrongModule, plan_with};
-ghost use Rattle.route_lang.specs.Asked.{HasOwnModule};
+ghost use Rattle.route_lang.specs.Reader.Asked.{HasOwnModule};
 ghost use Rattle.route_lang.specs.Fits.{IsScript};
 ghost use Rattle.route_lang.specs.Limits.{input_limit, lines_limit};
-ghost use Rattle.route_lang.specs.Reader.{TakesLine, RefusesLine, HasAtMost, plans_behind, entries_of, shared_command, no_plans};
+ghost use Rattle.route_lang.specs.Reader.Lines.{TakesLine, RefusesLine, HasAtMost, plans_behind, entries_of, shared_command, no_plans};
 ghost use Rattle.route_lang.specs.Script.{input_too_large, script_of, GivesScript, is_quiet, command_line};
 
 use crate::OutOfMemory;

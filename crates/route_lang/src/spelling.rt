@@ -8,13 +8,13 @@ ghost use Rattle.route_lang.specs.Fits.{HasCommands};
 
 use crate::line::Line;
 use crate::script::Script;
-use addr_text::{OutOfMemory, write_addr, write_prefix};
+use addr_text::{OutOfMemory, write_addr, write_number, write_prefix};
 use prefix_width::{Addr, Kind, NhKind, Path, Prefix, Setting};
 use rib_store::Command;
 use std::alloc::Global;
 
 /// Appends the canonical spelling of the line of a number, counted from 0, and a line feed. Where
-/// memory is wanting, `out` is as before.
+/// memory is wanting, `out` is as before. The number is below theirs.
 pub fn write_line(
     alloc: Global,
     script: &Script,
@@ -34,7 +34,8 @@ fn line_text(alloc: Global, script: &Script, line: &Line) -> Result<Vec<u8>, Out
     requires { HasCommands script.now line.now }
     ensures { IfOk result (λ text. text.items ≡ spelled_line script.now line.now) }
 {
-    let mut text = Vec::new(alloc);
+    // longer than most lines, so that it seldom grows
+    let mut text = Vec::with_capacity(alloc, 96)?;
     match line {
         Line::Change { inet, inet6, .. } | Line::Quiet { inet, inet6, .. } => {
             write_at(alloc, script, *inet, *inet6, &mut text)?;
@@ -105,7 +106,7 @@ fn write_command<const W: u32>(
         }
         Command::Tick { ms } => {
             out.extend_from_slice(b"tick")?;
-            write_number(alloc, *ms, out)
+            write_value(*ms, out)
         }
         Command::Sync => out.extend_from_slice(b"sync"),
         Command::Algo { setting } => {
@@ -129,7 +130,7 @@ fn write_get<const W: u32>(
     out.extend_from_slice(b"get")?;
     write_family::<W>(out)?;
     write_address(alloc, addr, out)?;
-    write_option(alloc, b"flow", 0, flow, out)
+    write_option(b"flow", 0, flow, out)
 }
 
 /// Appends destination and target, with a space before each word.
@@ -172,30 +173,25 @@ fn write_target<const W: u32>(
     match path.nexthop().kind() {
         NhKind::Via => {
             write_address(alloc, &path.nexthop().gateway(), out)?;
-            write_settings(alloc, path, out)
+            write_settings(path, out)
         }
-        NhKind::Direct => write_settings(alloc, path, out),
+        NhKind::Direct => write_settings(path, out),
         NhKind::Blackhole => write_word(b"-blackhole", out),
         NhKind::Reject => write_word(b"-reject", out),
     }
 }
 
 /// Appends interface, MTU and weight where they are told, with a space before each word.
-fn write_settings<const W: u32>(
-    alloc: Global,
-    path: &Path<W>,
-    out: &mut Vec<u8>,
-) -> Result<(), OutOfMemory>
+fn write_settings<const W: u32>(path: &Path<W>, out: &mut Vec<u8>) -> Result<(), OutOfMemory>
     ensures { OnOk result (out.new.items ≡ out.old.items ++ spaced (setting_words path.now)) }
 {
-    write_option(alloc, b"-if", 0, u32::from(path.nexthop().iface()), out)?;
-    write_option(alloc, b"-mtu", 0, path.nexthop().mtu(), out)?;
-    write_option(alloc, b"-weight", 1, path.weight(), out)
+    write_option(b"-if", 0, u32::from(path.nexthop().iface()), out)?;
+    write_option(b"-mtu", 0, path.nexthop().mtu(), out)?;
+    write_option(b"-weight", 1, path.weight(), out)
 }
 
 /// Appends an option and its value, unless the value is what holds without the option.
 fn write_option(
-    alloc: Global,
     option: &[u8],
     absent: u32,
     value: u32,
@@ -207,7 +203,7 @@ fn write_option(
         return Ok(());
     }
     write_word(option, out)?;
-    write_number(alloc, value, out)
+    write_value(value, out)
 }
 
 /// Appends the gateway, where there is one, with a space before it.
@@ -239,11 +235,11 @@ fn write_address<const W: u32>(
 }
 
 /// Appends a number with a space before it.
-fn write_number(alloc: Global, number: u32, out: &mut Vec<u8>) -> Result<(), OutOfMemory>
+fn write_value(number: u32, out: &mut Vec<u8>) -> Result<(), OutOfMemory>
     ensures { OnOk result (out.new.items ≡ out.old.items ++ spaced (decimal number ∷ [])) }
 {
-    let digits = format!(in alloc; "{number}")?;
-    write_word(digits.as_bytes(), out)
+    out.push(b' ')?;
+    write_number(number, out)
 }
 
 /// Appends the word of a family with a space before it.

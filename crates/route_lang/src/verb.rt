@@ -1,6 +1,6 @@
 //! The first word of a line.
 ghost use Rattle.std.specs.Prelude.{◌≡◌};
-ghost use Rattle.route_lang.specs.Verb.{verb_of, flag_of, is_family, is_extent, is_flow, has_flag, takes_value, bare_words, is_option, flag_token, token_of, least_value, greatest_value};
+ghost use Rattle.route_lang.specs.Reader.Verb.{verb_of, flag_of, is_family, is_extent, is_flow, has_flag, takes_value, bare_words, is_option, flag_token, token_of, least_value, greatest_value};
 ghost use Rattle.route_lang.specs.Grammar.{begins_with_dash};
 
 /// The commands of a line, after route(8); `tick`, `sync` and `algo` are this project's own.

@@ -1,9 +1,9 @@
 //! The walk through the words of a line.
-ghost use Rattle.std.specs.Prelude.{◌≡◌, ◌≤◌, IfOk, IfSome};
+ghost use Rattle.std.specs.Prelude.{◌≡◌, ◌≤◌, ◌∷◌, Err, length, IfOk, IfErr, IfSome};
 ghost use Rattle.route_lang.specs.Text.{words_of};
-ghost use Rattle.route_lang.specs.Asked.{is_inet6};
-ghost use Rattle.route_lang.specs.Verb.{value_of, least_value, greatest_value};
-ghost use Rattle.route_lang.specs.Walk.{met_by, InRange, nothing_met, is_given, set_flag, set_value, with_flag, with_value, with_bare, without_value, walk_from, GivesWalk};
+ghost use Rattle.route_lang.specs.Reader.Asked.{is_inet6};
+ghost use Rattle.route_lang.specs.Reader.Verb.{value_of, least_value, greatest_value};
+ghost use Rattle.route_lang.specs.Reader.Walk.{met_by, InRange, nothing_met, is_given, set_flag, set_value, with_flag, with_value, with_bare, without_value, walk_from, GivesWalk, TakesWord};
 
 use crate::fault::Reason;
 use crate::text::next_word;
@@ -69,112 +69,122 @@ impl<'a> Walk<'a> {
         }
     }
 
-    fn with_bare(self, verb: Verb, word: &'a [u8]) -> Result<Self, Reason>
-        requires { InRange self }
-        ensures value { GivesWalk result (with_bare verb (met_by self.entry) word.entry.now) }
-        ensures range { IfOk result InRange }
+    /// Takes a bare word.
+    fn take_bare(&mut self, verb: Verb, word: &'a [u8]) -> Result<(), Reason>
+        requires { InRange self.old }
+        ensures value { TakesWord result (met_by self.new) (with_bare verb (met_by self.old) word.entry.now) }
+        ensures range { InRange self.new }
     {
         if self.first.is_none() {
             if verb.bare_words() < 1 {
                 return Err(Reason::ExtraWord);
             }
-            return Ok(Walk {
-                first: Some(word),
-                ..self
-            });
+            self.first = Some(word);
+            return Ok(());
         }
         if self.second.is_some() || verb.bare_words() < 2 {
             return Err(Reason::ExtraWord);
         }
-        Ok(Walk {
-            second: Some(word),
-            ..self
-        })
+        self.second = Some(word);
+        Ok(())
     }
 
-    fn with_flag(self, flag: Flag) -> Result<Self, Reason>
-        requires { InRange self }
-        ensures value { GivesWalk result (with_flag (met_by self.entry) flag) }
-        ensures range { IfOk result InRange }
+    /// Takes an option without a value.
+    fn take_flag(&mut self, flag: Flag) -> Result<(), Reason>
+        requires { InRange self.old }
+        ensures value { TakesWord result (met_by self.new) (with_flag (met_by self.old) flag) }
+        ensures range { InRange self.new }
     {
         if self.is_given(flag) {
             return Err(Reason::Repeated);
         }
-        Ok(self.set_flag(flag))
+        self.set_flag(flag);
+        Ok(())
     }
 
-    fn set_flag(self, flag: Flag) -> Self
-        requires { InRange self }
-        ensures value { met_by result ≡ set_flag (met_by self.entry) flag }
-        ensures range { InRange result }
+    fn set_flag(&mut self, flag: Flag)
+        requires { InRange self.old }
+        ensures value { met_by self.new ≡ set_flag (met_by self.old) flag }
+        ensures range { InRange self.new }
     {
         match flag {
-            Flag::Inet | Flag::Inet6 => Walk {
-                family: Some(flag),
-                ..self
-            },
-            Flag::Net | Flag::Host => Walk {
-                extent: Some(flag),
-                ..self
-            },
-            Flag::Blackhole | Flag::Reject => Walk {
-                discard: Some(flag),
-                ..self
-            },
-            Flag::Iface | Flag::Mtu | Flag::Weight | Flag::Flow => self,
+            Flag::Inet | Flag::Inet6 => self.family = Some(flag),
+            Flag::Net | Flag::Host => self.extent = Some(flag),
+            Flag::Blackhole | Flag::Reject => self.discard = Some(flag),
+            Flag::Iface | Flag::Mtu | Flag::Weight | Flag::Flow => {}
         }
     }
 
-    fn with_value(self, flag: Flag, word: &[u8]) -> Result<Self, Reason>
-        requires { InRange self }
-        ensures value { GivesWalk result (with_value (met_by self.entry) flag word.now) }
-        ensures range { IfOk result InRange }
+    /// Takes an option with its value.
+    fn take_value(&mut self, flag: Flag, word: &[u8]) -> Result<(), Reason>
+        requires { InRange self.old }
+        ensures value { TakesWord result (met_by self.new) (with_value (met_by self.old) flag word.now) }
+        ensures range { InRange self.new }
     {
         if self.is_given(flag) {
             return Err(Reason::Repeated);
         }
         match flag.value(word) {
-            Some(n) => Ok(self.set_value(flag, n)),
+            Some(n) => {
+                self.set_value(flag, n);
+                Ok(())
+            }
             None => Err(Reason::BadNumber),
         }
     }
 
-    fn set_value(self, flag: Flag, n: u32) -> Self
-        requires range { InRange self }
+    fn set_value(&mut self, flag: Flag, n: u32)
+        requires range { InRange self.old }
         requires least { least_value flag ≤ n }
         requires most { n ≤ greatest_value flag }
-        ensures value { met_by result ≡ set_value (met_by self.entry) flag n }
-        ensures range { InRange result }
+        ensures value { met_by self.new ≡ set_value (met_by self.old) flag n }
+        ensures range { InRange self.new }
     {
         match flag {
-            Flag::Iface => Walk {
-                iface: Some(n),
-                ..self
-            },
-            Flag::Mtu => Walk {
-                mtu: Some(n),
-                ..self
-            },
-            Flag::Weight => Walk {
-                weight: Some(n),
-                ..self
-            },
-            Flag::Flow => Walk {
-                flow: Some(n),
-                ..self
-            },
-            Flag::Inet | Flag::Inet6 | Flag::Net | Flag::Host | Flag::Blackhole | Flag::Reject =>
-                self,
+            Flag::Iface => self.iface = Some(n),
+            Flag::Mtu => self.mtu = Some(n),
+            Flag::Weight => self.weight = Some(n),
+            Flag::Flow => self.flow = Some(n),
+            Flag::Inet | Flag::Inet6 | Flag::Net | Flag::Host | Flag::Blackhole | Flag::Reject => {}
         }
     }
 
-    fn without_value(self, flag: Flag) -> Result<Self, Reason>
-        ensures { GivesWalk result (without_value (met_by self.entry) flag) }
+    /// Takes a word and, where it is an option with a value, the next one; gives what is left.
+    fn take_word(&mut self, verb: Verb, word: &'a [u8], rest: &'a [u8]) -> Result<&'a [u8], Reason>
+        requires { InRange self.old }
+        ensures goes { IfOk result (λ left. walk_from verb (met_by self.old) (word.entry.now ∷ words_of rest.entry.now) ≡ walk_from verb (met_by self.new) (words_of left.now)) }
+        ensures fault { IfErr result (λ reason. walk_from verb (met_by self.old) (word.entry.now ∷ words_of rest.entry.now) ≡ Err reason) }
+        ensures fewer { IfOk result (λ left. length (words_of left.now) ≤ length (words_of rest.entry.now)) }
+        ensures range { InRange self.new }
+    {
+        match verb.token(word) {
+            None => Err(Reason::UnknownOption),
+            Some(Token::Bare) => {
+                self.take_bare(verb, word)?;
+                Ok(rest)
+            }
+            Some(Token::Plain(flag)) => {
+                self.take_flag(flag)?;
+                Ok(rest)
+            }
+            Some(Token::Valued(flag)) => {
+                let Some((value, rest)) = next_word(rest) else {
+                    return Err(self.fault_without_value(flag));
+                };
+                self.take_value(flag, value)?;
+                Ok(rest)
+            }
+        }
+    }
+
+    /// Why an option that takes a value may not be the last word.
+    fn fault_without_value(&self, flag: Flag) -> Reason
+        ensures { without_value (met_by self.now) flag ≡ Err result }
     {
         if self.is_given(flag) {
-            Err(Reason::Repeated)
+            Reason::Repeated
         } else {
-            Err(Reason::MissingWord)
+            Reason::MissingWord
         }
     }
 }
@@ -195,22 +205,15 @@ impl Flag {
     }
 }
 
-/// Walks over the words behind a command from left to right, after what was met.
-pub(crate) fn walk_on<'a>(verb: Verb, met: Walk<'a>, words: &'a [u8]) -> Result<Walk<'a>, Reason>
-    requires { InRange met }
-    ensures value { GivesWalk result (walk_from verb (met_by met.entry) (words_of words.entry.now)) }
+/// Walks over the words behind a command from left to right.
+pub(crate) fn walk_over<'a>(verb: Verb, words: &'a [u8]) -> Result<Walk<'a>, Reason>
+    ensures value { GivesWalk result (walk_from verb nothing_met (words_of words.entry.now)) }
     ensures range { IfOk result InRange }
 {
-    let Some((word, rest)) = next_word(words) else {
-        return Ok(met);
-    };
-    match verb.token(word) {
-        None => Err(Reason::UnknownOption),
-        Some(Token::Bare) => walk_on(verb, met.with_bare(verb, word)?, rest),
-        Some(Token::Plain(flag)) => walk_on(verb, met.with_flag(flag)?, rest),
-        Some(Token::Valued(flag)) => match next_word(rest) {
-            None => met.without_value(flag),
-            Some((value, rest)) => walk_on(verb, met.with_value(flag, value)?, rest),
-        },
+    let mut met = Walk::new();
+    let mut left = words;
+    'words: while let Some((word, rest)) = next_word(left) {
+        left = met.take_word(verb, word, rest)?;
     }
+    Ok(met)
 }

@@ -2,7 +2,7 @@
 use Rattle.std.proofs.Common.{◌≡◌, ◌∙◌, ◌+◌, ◌-◌, subst, arith}
 use Rattle.std.specs.Prelude.{IfOk}
 use Rattle.route_lang.specs.Script.{Reading}
-use Rattle.route_lang.specs.ReaderDraws.{script_drawn}
+use Rattle.route_lang.specs.Reader.Draws.{script_drawn}
 use Rattle.route_lang.proofs.AgreementLemmas.{drawn_agrees}
 use Rattle.route_lang.proofs.ReadingLemmas.{room_behind}
 use Rattle.route_lang.proofs.GeneratorLemmas.{generated_is_script, one_more_line, all_lines}

@@ -1,7 +1,7 @@
 -- The lines so far, before those that are left, are the script's.
 use Rattle.std.proofs.Common.{◌≡◌, ◌+◌, ◌-◌}
-use Rattle.route_lang.specs.Reader.{HasAtMost}
-use Rattle.route_lang.specs.ReaderDraws.{led_by, generated_from, script_drawn}
+use Rattle.route_lang.specs.Reader.Lines.{HasAtMost}
+use Rattle.route_lang.specs.Reader.Draws.{led_by, generated_from, script_drawn}
 use Rattle.route_lang.proofs.generator.generate.Given as goal
 
 abbrev pub invariant-lines : goal.invariant-lines

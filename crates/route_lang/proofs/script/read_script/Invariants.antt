@@ -1,7 +1,7 @@
 -- The lines so far, before those of the rest, are the script's.
 use Rattle.std.proofs.Common.{◌≡◌, ◌≤◌, ◌+◌, length}
 use Rattle.route_lang.specs.Text.{lines_of}
-use Rattle.route_lang.specs.Reader.{lines_from, with_front, no_plans, HasAtMost}
+use Rattle.route_lang.specs.Reader.Lines.{lines_from, with_front, no_plans, HasAtMost}
 use Rattle.route_lang.specs.Limits.{lines_limit}
 use Rattle.route_lang.proofs.script.read_script.Given as goal
 

@@ -2,7 +2,7 @@
 use Rattle.std.specs.Prelude.{ℕ, zero, suc, ◌+◌, ◌%◌, ◌==◌, nat_lt, List, [], ◌++◌, None, if◌then◌else◌}
 use Rattle.rib_store.specs.declared.command.Command.TheVariants as command
 use Rattle.route_lang.specs.Generator.{draw, state_after, drawn_prefix, drawn_path}
-use Rattle.route_lang.specs.Reader.{plans_behind, entries_of, no_plans}
+use Rattle.route_lang.specs.Reader.Lines.{plans_behind, entries_of, no_plans}
 use Rattle.route_lang.specs.Script.{Reading}
 use Rattle.route_lang.specs.declared.asked.Asked.{Asked}
 use Rattle.route_lang.specs.declared.asked.Asked.TheVariants.{Inet, Both, Get4}

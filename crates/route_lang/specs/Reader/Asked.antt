@@ -29,8 +29,8 @@ use Rattle.route_lang.specs.Limits.{lines_limit, line_limit}
 use Rattle.route_lang.specs.Request.{Request, OfInet, OfInet6, OfBoth, LookUp, LookUp6}
 use Rattle.route_lang.specs.Request as request
 use Rattle.route_lang.specs.Text.{words_of}
-use Rattle.route_lang.specs.Verb.{verb_of}
-use Rattle.route_lang.specs.Walk.{Met, nothing_met, walk_from}
+use Rattle.route_lang.specs.Reader.Verb.{verb_of}
+use Rattle.route_lang.specs.Reader.Walk.{Met, nothing_met, walk_from}
 use Rattle.route_lang.specs.Grammar.{◌>>=◌}
 
 -- ---- words after the walk

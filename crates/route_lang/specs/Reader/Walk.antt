@@ -10,7 +10,7 @@ use Rattle.route_lang.specs.declared.verb.Token.{Token}
 use Rattle.route_lang.specs.declared.verb.Token.TheVariants.{Bare, Plain, Valued}
 use Rattle.route_lang.specs.declared.walk.Walk.{Walk}
 use Rattle.route_lang.specs.Grammar.{◌>>=◌}
-use Rattle.route_lang.specs.Verb.{bare_words, token_of, value_of}
+use Rattle.route_lang.specs.Reader.Verb.{bare_words, token_of, value_of}
 
 -- what was met so far: bare words, the options given, and the values of options
 pub record Met : Type 0 where
@@ -137,6 +137,11 @@ walk_from verb met (word ∷ next ∷ words) =
 abbrev pub GivesWalk : Result Walk Reason → Result Met Reason → Type 0
 GivesWalk (Ok walk) met = met ≡ Ok (met_by walk)
 GivesWalk (Err reason) met = met ≡ Err reason
+
+-- what a walk answers where it takes one thing more, and what it has met behind that
+abbrev pub TakesWord : {A : Type 0} → Result A Reason → Met → Result Met Reason → Type 0
+TakesWord (Ok done) after met = met ≡ Ok after
+TakesWord (Err reason) after met = met ≡ Err reason
 
 -- the values that a walk has met are of their ranges
 abbrev pub InRange : Walk → Type 0
