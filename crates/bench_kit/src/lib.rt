@@ -10,7 +10,7 @@ mod words;
 pub use clock::cpu_time;
 pub use draws::Draws;
 pub use fault::Fault;
-pub use printing::{end, printed, tenths};
+pub use printing::{end, per_second, printed, tenths};
 pub use std::alloc::AllocError as OutOfMemory;
 pub use words::{number_in, words_of};
 

@@ -43,3 +43,10 @@ pub fn tenths(dividend: u128, divisor: u128) -> (u128, u128)
     let all = dividend.saturating_mul(10) / divisor.max(1);
     (all / 10, all % 10)
 }
+
+/// How many there are in a second, where so many take so many nanoseconds. None take as long as one.
+pub fn per_second(count: u64, nanos: u128) -> u128
+    ensures { result ≡ count * 1_000_000_000 / max nanos 1 }
+{
+    u128::from(count) * 1_000_000_000 / nanos.max(1)
+}

@@ -1,5 +1,5 @@
 //! Draws, numbers and quotients, reckoned by another program.
-use crate::{Draws, number_in, tenths};
+use crate::{Draws, number_in, per_second, tenths};
 
 #[test]
 fn the_first_draws_of_seed_1(rt: HostRuntime) {
@@ -34,5 +34,17 @@ fn quotients_are_cut_off(rt: HostRuntime) {
         (0, 3, 0, 0),
     ] {
         assert_eq!(rt; tenths(dividend, divisor), (whole, tenth));
+    }
+}
+
+#[test]
+fn rates_are_cut_off(rt: HostRuntime) {
+    for (count, nanos, rate) in [
+        (3, 2_000_000_000, 1),
+        (1_000, 1_000_000, 1_000_000),
+        (2, 0, 2_000_000_000),
+        (0, 5, 0),
+    ] {
+        assert_eq!(rt; per_second(count, nanos), rate);
     }
 }

@@ -1,5 +1,5 @@
 //! What is printed.
-ghost use Rattle.std.specs.Prelude.{◌≡◌, ◌+◌, ◌*◌, ◌/◌, ◌%◌, ◌<◌, ◌≤◌, max};
+ghost use Rattle.std.specs.Prelude.{◌≡◌, ◌/◌, ◌%◌, ◌<◌, ◌≤◌};
 ghost use Rattle.module_trait.specs.Rows.{AreRows};
 
 use crate::addresses::{inside, uniform};
@@ -9,7 +9,7 @@ use crate::family::family_name;
 use crate::job::Job;
 use crate::measure::{measure, sum_of};
 use crate::routes::{count_nodes, count_starts, draw_routes, draw_view};
-use bench_kit::{Fault, printed, tenths};
+use bench_kit::{Fault, per_second, printed, tenths};
 use dxr_chunks::ChunkTable;
 use dxr_table::DxrTable;
 use module_trait::{Module, ScanTable, Steps};
@@ -248,19 +248,12 @@ fn print_edit_times<const W: u32, R: Print + AllocGlobal + CpuClock>(
     let figures = measure_edits(rt, &mut drawing.view, prefixes)?;
     let family = family_name::<W>();
     let count = prefixes.len();
-    let changes = per_second(count, figures.changes.as_nanos());
-    let removals = per_second(count.saturating_mul(2), figures.removals.as_nanos());
+    let changes = per_second(count as u64, figures.changes.as_nanos());
+    let removals = per_second(count.saturating_mul(2) as u64, figures.removals.as_nanos());
     let (micros, nanos) = thousandths(figures.copy.as_nanos());
     printed(println!(rt;
         "radix {family} edits {count}: {changes} changes of an index a second, {removals} removals and additions a second, {micros}.{nanos:03} us to copy after three changed nodes"
     ))
-}
-
-/// How many there are in a second, if so many take so many nanoseconds. None takes as long as one.
-fn per_second(count: usize, nanos: u128) -> u128
-    ensures { result ≡ count * 1_000_000_000 / max nanos 1 }
-{
-    count as u128 * 1_000_000_000 / nanos.max(1)
 }
 
 /// Thousandths as wholes and the thousandths behind them.

@@ -1,5 +1,5 @@
 //! What is printed.
-ghost use Rattle.std.specs.Prelude.{◌≡◌, ◌*◌, ◌/◌, ◌≤◌, max};
+ghost use Rattle.std.specs.Prelude.{◌≤◌};
 ghost use Rattle.epoch_bench.specs.Words.{HasRounds};
 ghost use Rattle.epoch_bench.specs.declared.job.TheConstants.{ROUNDS_MAX};
 
@@ -8,7 +8,7 @@ use crate::hits::{HITS_MAX, time_close, time_hits, time_turns};
 use crate::idle::{Idle, run_idle};
 use crate::job::Job;
 use crate::writer::Goal;
-use bench_kit::{Fault, printed, tenths};
+use bench_kit::{Fault, per_second, printed, tenths};
 use std::sync::Wait;
 use std::thread::Threads;
 use std::time::{CpuClock, Duration};
@@ -92,7 +92,7 @@ fn time_words<R: Print + AllocGlobal + CpuClock>(rt: &R, rounds: u64) -> Result<
     printed(println!(rt; "hitting 1: {nanos}.{tenth} ns to enter, hit and leave"))?;
     for readers in [1, 8, 64u8] {
         let time = time_turns(rt, rt.alloc(), readers, rounds)?;
-        let rate = a_second(rounds, time.as_nanos());
+        let rate = per_second(rounds, time.as_nanos());
         printed(println!(rt; "turning {readers}: {rounds} versions placed, {rate} a second"))?;
     }
     print_close(rt, 4_096, time_close::<R, 511>(rt, rt.alloc())?)?;
@@ -116,7 +116,7 @@ fn print_time<R: Print + AllocGlobal>(
 ) -> Result<(), Fault> {
     let entered = beside.found.entered;
     let (nanos, tenth) = tenths(beside.reads.as_nanos(), u128::from(entered));
-    let rate = a_second(beside.placed, beside.places.as_nanos());
+    let rate = per_second(beside.placed, beside.places.as_nanos());
     let placed = beside.placed;
     printed(println!(rt;
         "{kind} {readers}: {nanos}.{tenth} ns to enter and leave, {placed} versions placed, {rate} a second"
@@ -125,14 +125,7 @@ fn print_time<R: Print + AllocGlobal>(
 
 /// Prints how many versions were placed a second beside idle readers.
 fn print_rate<R: Print + AllocGlobal>(rt: &R, readers: u8, idle: &Idle) -> Result<(), Fault> {
-    let rate = a_second(idle.placed, idle.time.as_nanos());
+    let rate = per_second(idle.placed, idle.time.as_nanos());
     let placed = idle.placed;
     printed(println!(rt; "idle {readers}: {placed} versions placed, {rate} a second"))
-}
-
-/// How many a second it is, where so many take so many nanoseconds, which are 1 at least.
-fn a_second(count: u64, nanos: u128) -> u128
-    ensures { result ≡ count * 1000000000 / max 1 nanos }
-{
-    u128::from(count) * 1_000_000_000 / nanos.max(1)
 }

@@ -1,4 +1,5 @@
-use crate::fault::Fault;
+//! Times that go by, and pauses.
+use bench_kit::Fault;
 use std::rt::Clock;
 use std::thread;
 use std::time::{Duration, Instant};

@@ -1,10 +1,9 @@
 //! Plans whose table is known at each version.
 use crate::OutOfMemory;
-use crate::draws::Draws;
-use crate::fault::Fault;
 use crate::rows::{changes_after, command_of};
+use bench_kit::{Draws, Fault};
 use prefix_width::{Addr, Kind, Prefix, Setting};
-use rib_store::{Command, Plan};
+use rib_store::{Command, Plan, PushError};
 use std::alloc::Global;
 use std::collections::BTreeSet;
 use std::sync::Arc;
@@ -45,6 +44,15 @@ fn draw_prefixes(alloc: Global, count: usize) -> Result<Vec<Prefix<32>>, OutOfMe
     Ok(prefixes)
 }
 
+/// Puts a command behind a plan's others.
+fn push(plan: &mut Plan<32>, command: Command<32>) -> Result<(), Fault> {
+    match plan.push(command) {
+        Ok(()) => Ok(()),
+        Err(PushError::OutOfMemory) => Err(Fault::OutOfMemory),
+        Err(_) => Err(Fault::Unmade),
+    }
+}
+
 /// A plan of these rows in this module, and then of so many turns.
 fn plan_of(
     alloc: Global,
@@ -53,21 +61,25 @@ fn plan_of(
     turns: usize,
 ) -> Result<Plan<32>, Fault> {
     let mut plan = Plan::new(alloc);
-    plan.push(Command::Algo {
-        setting: Setting::Fixed(kind),
-    })?;
+    push(
+        &mut plan,
+        Command::Algo {
+            setting: Setting::Fixed(kind),
+        },
+    )?;
     for place in 0..prefixes.len() {
-        plan.push(command_of(prefixes[place], place as u64, 0)?)?;
+        push(&mut plan, command_of(prefixes[place], place as u64, 0))?;
     }
-    plan.push(Command::Sync)?;
+    push(&mut plan, Command::Sync)?;
     if prefixes.is_empty() {
         return Ok(plan);
     }
     for turn in 0..turns {
         let place = turn % prefixes.len();
         let before = changes_after(turn as u64, place as u64, prefixes.len() as u64);
-        plan.push(command_of(prefixes[place], place as u64, before.saturating_add(1))?)?;
-        plan.push(Command::Sync)?;
+        let change = before.saturating_add(1);
+        push(&mut plan, command_of(prefixes[place], place as u64, change))?;
+        push(&mut plan, Command::Sync)?;
     }
     Ok(plan)
 }

@@ -4,14 +4,13 @@ ghost use denote.Param.Send.{IsSync};
 
 use crate::clock::Timer;
 use crate::course::Course;
-use crate::draws::Draws;
-use crate::fault::Fault;
 use crate::fib::{Control, Inside, Pass, Publisher, start_fib};
 use crate::reader::{
     AFTER, BEFORE, Found, HELD, Known, Reader, Way, look_up_inside, read_all, readers_of,
 };
 use crate::scan::Rows;
 use crate::writer::{Tries, publish_next, publish_rows};
+use bench_kit::{Draws, Fault};
 use module_trait::Steps;
 use std::alloc::Global;
 use std::marker::Brand;
@@ -212,7 +211,7 @@ pub(crate) fn run_hold<R: Threads + Wait + Clock + Sync>(
 ) -> Result<Hold, Fault> {
     let (mut control, mut publisher, mut passes) = start_fib(alloc, course, passes)?;
     let base = publish_rows(rt, alloc, &mut control, &mut publisher, course)?;
-    let pass = passes.pop().ok_or(Fault::Table)?;
+    let pass = passes.pop().ok_or(Fault::Unmade)?;
     let stage = AtomicU8::new(BEFORE);
     let known = Known {
         course,

@@ -1,6 +1,11 @@
 //! What a run does.
-ghost use Rattle.std.specs.Prelude.{ℕ, IfNone, IfSome};
-ghost use Rattle.fib_soak.specs.Words.{AsksNumber};
+ghost use Rattle.std.specs.Prelude.{map};
+ghost use Rattle.std.specs.Option.{SomeIff};
+ghost use Rattle.std.specs.String.{string_bytes};
+ghost use Rattle.bench_kit.specs.Words.{IsNumberTo, number_of};
+ghost use Rattle.fib_soak.specs.Words.{Asks, AsksRun, IsPasses};
+
+use bench_kit::number_in;
 
 /// How many seconds a soak takes at most: a day.
 const SOAK_MAX: u32 = 86_400;
@@ -9,10 +14,10 @@ const SOAK_MAX: u32 = 86_400;
 const HOLD_MAX: u32 = 3_600;
 
 /// How many passes a fib has at most.
-const PASSES_MAX: u32 = 64;
+const PASSES_MAX: u64 = 64;
 
 /// What a run does.
-#[derive(Clone, Copy, Debug, PartialEq, Eq)]
+#[derive(Clone, Copy)]
 pub(crate) enum Job {
     /// Shows a few passes.
     Show,
@@ -34,28 +39,47 @@ pub(crate) enum Job {
 
 /// The job of the words behind the program's name: none, or `soak` or `hold` with a number of
 /// seconds and a number of passes.
-pub(crate) fn job_of(words: &[String]) -> Option<Job> {
+pub(crate) fn job_of(words: &[String]) -> Option<Job>
+    ensures { Asks (map string_bytes words.now) result }
+{
     match words {
         [] => Some(Job::Show),
-        [word, seconds, passes] if word.as_str() == "soak" => Some(Job::Soak {
-            seconds: number_of(1, SOAK_MAX, seconds.as_str())?,
-            passes: u8::try_from(number_of(1, PASSES_MAX, passes.as_str())?).ok()?,
+        [word, seconds, passes] => run_of(word.as_str(), seconds.as_str(), passes.as_str()),
+        _ => None,
+    }
+}
+
+/// The job of three words.
+fn run_of(word: &str, seconds: &str, passes: &str) -> Option<Job>
+    ensures { AsksRun word.now seconds.now passes.now result }
+{
+    match word {
+        "soak" => Some(Job::Soak {
+            seconds: seconds_of(seconds, SOAK_MAX)?,
+            passes: passes_of(passes, 1)?,
         }),
-        [word, seconds, passes] if word.as_str() == "hold" => Some(Job::Hold {
-            seconds: number_of(1, HOLD_MAX, seconds.as_str())?,
-            passes: u8::try_from(number_of(2, PASSES_MAX, passes.as_str())?).ok()?,
+        "hold" => Some(Job::Hold {
+            seconds: seconds_of(seconds, HOLD_MAX)?,
+            passes: passes_of(passes, 2)?,
         }),
         _ => None,
     }
 }
 
-/// A number that a text asks for, within its range.
-fn number_of(least: u32, most: u32, text: &str) -> Option<u32>
-    ensures taken { IfSome result (λ number. AsksNumber least most text.now number) }
-    ensures refused { IfNone result ((number : ℕ) → ¬ AsksNumber least most text.now number) }
+/// A number of seconds, 1 to `most`.
+fn seconds_of(text: &str, most: u32) -> Option<u32>
+    ensures { SomeIff result (IsNumberTo most text.now) (number_of text.now) }
 {
-    match text.parse::<u32>() {
-        Ok(number) if least <= number && number <= most => Some(number),
+    let seconds = number_in(text, u64::from(most))?;
+    Some(seconds as u32)
+}
+
+/// A number of passes, `least` to [`PASSES_MAX`].
+fn passes_of(text: &str, least: u8) -> Option<u8>
+    ensures { SomeIff result (IsPasses least text.now) (number_of text.now) }
+{
+    match number_in(text, PASSES_MAX) {
+        Some(passes) if u64::from(least) <= passes => Some(passes as u8),
         _ => None,
     }
 }

@@ -7,8 +7,6 @@
 
 mod clock;
 mod course;
-mod draws;
-mod fault;
 mod fib;
 mod hold;
 mod job;
@@ -19,7 +17,7 @@ mod scan;
 mod soak;
 mod writer;
 
-use fault::Fault;
+use bench_kit::{Fault, end, words_of};
 use job::{Job, job_of};
 use report::work;
 pub use std::alloc::AllocError as OutOfMemory;
@@ -27,16 +25,14 @@ use std::process::ExitCode;
 use std::rt::{Clock, Env};
 use std::sync::Wait;
 use std::thread::Threads;
-use std::{env, io};
 
 fn main(rt: HostRuntime) -> ExitCode {
-    match run(&rt) {
-        Ok(()) => ExitCode::from(0),
-        Err(fault) => {
-            let _ = rt.eprintln(fault);
-            ExitCode::from(fault.code())
-        }
-    }
+    end(
+        &rt,
+        "fib_soak",
+        "[soak SECONDS PASSES | hold SECONDS PASSES]",
+        run(&rt),
+    )
 }
 
 /// Does the job of the words behind the program's name.
@@ -47,12 +43,7 @@ fn run<R: Env + Print + AllocGlobal + Clock + Threads + Wait + Sync>(rt: &R) -> 
 
 /// The job of the words behind the program's name.
 fn read_job<R: Env + AllocGlobal>(rt: &R) -> Result<Job, Fault> {
-    let args = match env::args(rt) {
-        Ok(args) => args,
-        Err(error) if error.kind() == io::ErrorKind::OutOfMemory => return Err(Fault::OutOfMemory),
-        Err(_) => return Err(Fault::Usage),
-    };
-    let words: Vec<String> = args.skip(1).collect(rt.alloc())?;
+    let words = words_of(rt)?;
     match job_of(words.as_slice()) {
         Some(job) => Ok(job),
         None => Err(Fault::Usage),

@@ -1,13 +1,14 @@
 //! Lookups that are compared with scans.
-ghost use Rattle.std.specs.Prelude.{◌≡◌, ◌<◌};
+ghost use Rattle.std.specs.Prelude.{◌≡◌, ◌<◌, Ok, Err};
+ghost use Rattle.fib_soak.specs.Rows.{rows_after};
+ghost use Rattle.fib_soak.specs.Answers.{IsScanned};
 
 use crate::OutOfMemory;
 use crate::clock::rest;
 use crate::course::Course;
-use crate::draws::Draws;
-use crate::fault::Fault;
 use crate::fib::{Inside, Pass};
 use crate::scan::Rows;
+use bench_kit::{Draws, Fault};
 use fib_pass::Answer;
 use module_trait::Steps;
 use prefix_width::Addr;
@@ -91,9 +92,14 @@ fn compare(
     addr: &Addr<32>,
     flow: u32,
     answer: Answer<32>,
-) -> Result<(), Fault> {
+) -> Result<(), Fault>
+    requires before { rows.old.rows.items ≡ rows_after known.course.now.prefixes.items rows.old.turns }
+    ensures after { rows.new.rows.items ≡ rows_after known.entry.course.now.prefixes.items rows.new.turns }
+    ensures same { result ≡ Ok tt → IsScanned known.entry.course.now.prefixes.items known.entry.base addr.now flow answer }
+    ensures other { result ≡ Err Fault.Answer → IsScanned known.entry.course.now.prefixes.items known.entry.base addr.now flow answer → ⊥ }
+{
     let Some(turns) = answer.version.checked_sub(known.base) else {
-        return Err(Fault::Version);
+        return Err(Fault::Answer);
     };
     rows.follow(alloc, known.course, turns)?;
     if answer.nexthop == rows.scan(addr, flow) {
@@ -111,7 +117,10 @@ fn look_up<L: Ledger>(
     rows: &mut Rows,
     draws: &mut Draws,
     steps: &mut Steps<L>,
-) -> Result<Option<u64>, Fault> {
+) -> Result<Option<u64>, Fault>
+    requires { rows.old.rows.items ≡ rows_after known.course.now.prefixes.items rows.old.turns }
+    ensures { rows.new.rows.items ≡ rows_after known.entry.course.now.prefixes.items rows.new.turns }
+{
     let course = known.course;
     let Some((addr, flow)) = course.draw_packet(draws) else {
         return Ok(None);
@@ -149,7 +158,7 @@ fn look_up_while<R: Clock, L: Ledger>(
             break;
         };
         if version < found.newest {
-            return Err(Fault::Version);
+            return Err(Fault::Answer);
         }
         found.lookups = found.lookups.saturating_add(1);
         found.newest = version;
@@ -168,7 +177,10 @@ pub(crate) fn look_up_inside<L: Ledger>(
     rows: &mut Rows,
     draws: &mut Draws,
     steps: &mut Steps<L>,
-) -> Result<u64, Fault> {
+) -> Result<u64, Fault>
+    requires { rows.old.rows.items ≡ rows_after known.course.now.prefixes.items rows.old.turns }
+    ensures { rows.new.rows.items ≡ rows_after known.entry.course.now.prefixes.items rows.new.turns }
+{
     let mut lookups = 0u64;
     for _ in 0..BATCH {
         let Some((addr, flow)) = known.course.draw_packet(draws) else {
@@ -178,7 +190,7 @@ pub(crate) fn look_up_inside<L: Ledger>(
             break;
         };
         if answer.version != inside.version() {
-            return Err(Fault::Version);
+            return Err(Fault::Answer);
         }
         compare(alloc, known, rows, &addr, flow, answer)?;
         lookups = lookups.saturating_add(1);

@@ -1,12 +1,12 @@
 //! What is printed.
 use crate::clock::Timer;
 use crate::course::Course;
-use crate::fault::{Fault, printed};
 use crate::fib::BESIDE_HELD;
 use crate::hold::run_hold;
 use crate::job::Job;
 use crate::reader::Way;
 use crate::soak::{Round, run_round};
+use bench_kit::{Fault, printed};
 use prefix_width::Kind;
 use std::rt::Clock;
 use std::sync::Wait;
@@ -151,7 +151,7 @@ fn hold<R: Print + AllocGlobal + Clock + Threads + Wait + Sync>(
     let hold = run_hold(rt, alloc, &course, passes, length, way)?;
     let (held, newest) = (hold.version, hold.found.beside);
     if newest > held.saturating_add(BESIDE_HELD) {
-        return Err(Fault::Version);
+        return Err(Fault::Answer);
     }
     let (inside, lookups) = (hold.inside, hold.found.lookups);
     let (pass, by_it, by_others) = (hold.tries.pass, hold.tries.by_it, hold.tries.by_others);

@@ -4,10 +4,10 @@ ghost use denote.Param.Send.{IsSync};
 
 use crate::clock::Timer;
 use crate::course::Course;
-use crate::fault::Fault;
 use crate::fib::{Control, Publisher, start_fib};
 use crate::reader::{BEFORE, Found, Known, Reader, Way, read_all, readers_of};
 use crate::writer::{publish_rows, publish_while};
+use bench_kit::Fault;
 use std::alloc::Global;
 use std::rt::Clock;
 use std::sync::Wait;

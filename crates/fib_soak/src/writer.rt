@@ -5,8 +5,8 @@ ghost use Rattle.fib_sync.specs.VersionNames.{fresh_at, names_at};
 
 use crate::clock::{Timer, rest};
 use crate::course::Course;
-use crate::fault::Fault;
 use crate::fib::{Control, Publisher};
+use bench_kit::Fault;
 use fib_pass::Ready;
 use fib_sync::Advance;
 use std::alloc::Global;

@@ -46,7 +46,8 @@ impl<const W: u32, const K: u64, const LIVE: u32> Control<W, K, LIVE> {
     ghost use Rattle.fib_sync.specs.Control.{Advances, IsControl, IsImage};
     ghost use Rattle.fib_sync.specs.VersionNames.{naming_at};
 
-    /// A control that has run no command, and the image of version 0.
+    /// A control that has run no command, and the image of version 0. There are 2 to 8 banks, and
+    /// room for 1 to 4,095 live targets.
     pub fn begin(
         alloc: Global,
         plan: Arc<Plan<W>>,

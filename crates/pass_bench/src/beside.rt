@@ -3,11 +3,11 @@ ghost use Rattle.std.specs.Prelude.{◌≡◌};
 ghost use denote.Param.Send.{IsSync};
 
 use crate::OutOfMemory;
-use crate::fault::Fault;
 use crate::fib::{Control, Pass, Publisher, start_fib};
 use crate::reader::{Found, Way, read};
 use crate::routes::Course;
 use crate::writer::{Written, publish_routes, write};
+use bench_kit::Fault;
 use prefix_width::Addr;
 use std::alloc::Global;
 use std::sync::Wait;

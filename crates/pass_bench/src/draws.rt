@@ -1,9 +1,5 @@
 //! Drawn routes.
-/// A linear congruential generator of 64 bits, of which a draw gives the upper half.
-#[derive(Drop)]
-pub(crate) struct Draws {
-    state: u64,
-}
+use bench_kit::Draws;
 
 /// Below which thousandth a prefix has which length.
 const LENGTHS: [(u32, u8); 14] = [
@@ -23,33 +19,17 @@ const LENGTHS: [(u32, u8); 14] = [
     (999, 10),
 ];
 
-impl Draws {
-    /// The generator that begins at a seed.
-    pub(crate) fn new(seed: u64) -> Draws {
-        Draws { state: seed }
-    }
-
-    /// The next number.
-    pub(crate) fn draw(&mut self) -> u32 {
-        self.state = self
-            .state
-            .wrapping_mul(6_364_136_223_846_793_005)
-            .wrapping_add(1_442_695_040_888_963_407);
-        (self.state >> 32) as u32
-    }
-
-    /// A prefix's length, and an address in it below `2^32`. Long prefixes lie in every third block
-    /// of 16 bits.
-    pub(crate) fn draw_block(&mut self) -> (u8, u128) {
-        let len = length_at(self.draw() % 1000);
-        let draw = u128::from(self.draw());
-        let value = if len >= 16 {
-            (256 + 3 * (draw / 65_536 % 16_384)) * 65_536 + draw % 65_536
-        } else {
-            (1 + draw / 16_777_216 % 223) * 16_777_216 + draw % 16_777_216
-        };
-        (len, value)
-    }
+/// A prefix's length, and an address in it below `2^32`. Long prefixes lie in every third block of
+/// 16 bits.
+pub(crate) fn draw_block(draws: &mut Draws) -> (u8, u128) {
+    let len = length_at(draws.draw() % 1000);
+    let draw = u128::from(draws.draw());
+    let value = if len >= 16 {
+        (256 + 3 * (draw / 65_536 % 16_384)) * 65_536 + draw % 65_536
+    } else {
+        (1 + draw / 16_777_216 % 223) * 16_777_216 + draw % 16_777_216
+    };
+    (len, value)
 }
 
 /// The length at a thousandth: that of the first bound above it, or the greatest.

@@ -1,7 +1,7 @@
 ghost use Rattle.std.specs.Prelude.{◌≡◌, IfOk};
 
-use crate::fault::Fault;
 use crate::routes::Course;
+use bench_kit::Fault;
 use fib_pass::fib_start;
 use std::alloc::Global;
 use std::sync::Arc;
@@ -24,7 +24,7 @@ pub(crate) fn start_fib(
 {
     let (control, first) = Control::begin(alloc, Arc::try_clone(&course.plan)?)?;
     let Ok((publisher, passes)) = fib_start(alloc, &course.plan, &first, passes) else {
-        return Err(Fault::Table);
+        return Err(Fault::Unmade);
     };
     Ok((control, publisher, passes))
 }

@@ -1,10 +1,9 @@
 //! The same lookups without epochs.
 ghost use Rattle.std.specs.Prelude.{◌≡◌, ◌<◌};
 
-use crate::clock::cpu_time;
-use crate::fault::Fault;
 use crate::fib::Control;
 use crate::routes::Course;
+use bench_kit::{Fault, cpu_time};
 use engine_set::Image;
 use fib_sync::Advance;
 use module_trait::Steps;
@@ -44,7 +43,7 @@ fn look_up_plainly<L: Ledger>(image: &Image<32>, addrs: &[Addr<32>], steps: &mut
     answered
 }
 
-/// The processor time of the fastest round, and how many lookups of it were answered.
+/// The processor time of the fastest round, and how many lookups of all rounds were answered.
 fn time_counted<R: CpuClock, L: Ledger>(
     rt: &R,
     alloc: Global,
@@ -58,16 +57,17 @@ fn time_counted<R: CpuClock, L: Ledger>(
     let mut steps = Steps::<L>::new(alloc, blank)?;
     let image = whole_image(alloc, course)?;
     let mut least = Duration::MAX;
-    let mut answered = 0;
+    let mut answered = 0u64;
     for _ in 0..ROUNDS {
         let start = cpu_time(rt)?;
-        answered = look_up_plainly(&image, &course.addrs, &mut steps);
+        let more = look_up_plainly(&image, &course.addrs, &mut steps);
         least = least.min(cpu_time(rt)?.saturating_sub(start));
+        answered = answered.wrapping_add(more);
     }
     Ok((least, answered))
 }
 
-/// The processor time of the fastest round, and how many lookups of it were answered.
+/// The processor time of the fastest round, and how many lookups of all rounds were answered.
 pub(crate) fn time_plainly<R: CpuClock>(
     rt: &R,
     alloc: Global,

@@ -1,9 +1,8 @@
 //! What a pass does, and what it found.
 ghost use Rattle.std.specs.Prelude.{◌≡◌, ◌<◌};
 
-use crate::clock::cpu_time;
-use crate::fault::Fault;
 use crate::fib::Pass;
+use bench_kit::{Fault, cpu_time};
 use module_trait::Steps;
 use prefix_width::Addr;
 use std::alloc::Global;

@@ -1,14 +1,12 @@
 //! What is printed.
-ghost use Rattle.std.specs.Prelude.{◌≡◌, ◌≤◌, ◌+◌, ◌-◌, ◌*◌, ◌/◌, ◌^◌, max, min};
-
 use crate::beside::{Beside, run_beside};
-use crate::fault::{Fault, print_fault};
 use crate::job::Job;
 use crate::plain::time_plainly;
 use crate::reader::Way;
+use crate::resolve::{Fastest, compare};
 use crate::routes::{Course, course_of};
+use bench_kit::{Fault, per_second, printed, tenths};
 use prefix_width::Kind;
-use std::io;
 use std::sync::Wait;
 use std::thread::Threads;
 use std::time::CpuClock;
@@ -30,13 +28,22 @@ pub(crate) fn work<R: Print + AllocGlobal + CpuClock + Threads + Wait + Sync>(
     rt: &R,
     job: Job,
 ) -> Result<(), Fault> {
-    for kind in [Kind::Radix, Kind::Dxr] {
-        match job {
-            Job::Show => show(rt, kind)?,
-            Job::Time(routes) => time(rt, kind, routes)?,
+    match job {
+        Job::Show => {
+            show(rt, Kind::Radix)?;
+            show(rt, Kind::Dxr)
+        }
+        Job::Time(routes) => {
+            time(rt, Kind::Radix, routes)?;
+            time(rt, Kind::Dxr, routes)
+        }
+        Job::Resolve(routes) => {
+            for kind in [Kind::Scan, Kind::Range, Kind::Radix, Kind::Dxr] {
+                time_resolve(rt, kind, routes)?;
+            }
+            Ok(())
         }
     }
-    Ok(())
 }
 
 /// The name of a module.
@@ -80,9 +87,9 @@ fn time<R: Print + AllocGlobal + CpuClock + Threads + Wait + Sync>(
     let name = name_of(kind);
     let routes = course.routes;
     let (time, answered) = time_plainly(rt, alloc, &course)?;
-    let (nanos, tenths) = tenths(time.as_nanos(), course.addrs.len() as u64);
+    let (nanos, tenth) = tenths(time.as_nanos(), course.addrs.len() as u128);
     printed(println!(rt;
-        "{name} plain {routes}: {nanos}.{tenths} ns a lookup, {answered} answered"
+        "{name} plain {routes}: {nanos}.{tenth} ns a lookup, {answered} answered in all rounds"
     ))?;
     for publishing in [false, true] {
         for passes in 1..=3u8 {
@@ -115,29 +122,37 @@ fn time_passes<R: Print + AllocGlobal + CpuClock + Threads + Wait + Sync>(
 
 /// The nanoseconds of a lookup, and the tenths behind them.
 fn nanos_of(beside: &Beside) -> (u128, u128) {
-    tenths(beside.found.time.as_nanos(), beside.found.lookups)
+    tenths(
+        beside.found.time.as_nanos(),
+        u128::from(beside.found.lookups),
+    )
 }
 
 /// How many versions were published a second of the publisher's time.
 fn rate_of(beside: &Beside) -> u128 {
-    let nanos = beside.written.time.as_nanos();
-    u128::from(beside.written.versions) * 1_000_000_000 / nanos.max(1)
+    per_second(beside.written.versions, beside.written.time.as_nanos())
 }
 
-/// The fault of a print.
-fn printed(outcome: io::Result<()>) -> Result<(), Fault> {
-    match outcome {
-        Ok(()) => Ok(()),
-        Err(error) => Err(print_fault(&error)),
-    }
+/// Prints what a lookup takes in an engine of a module and in images of the same routes.
+fn time_resolve<R: Print + AllocGlobal + CpuClock>(
+    rt: &R,
+    kind: Kind,
+    routes: u32,
+) -> Result<(), Fault> {
+    let costs = compare(rt, rt.alloc(), kind, routes)?;
+    let name = name_of(kind);
+    let routes = costs.routes;
+    let (engine, engine_tenth) = nanos_in(&costs.engine, costs.lookups);
+    let (nexthops, nexthops_tenth) = nanos_in(&costs.nexthops, costs.lookups);
+    let (groups, groups_tenth) = nanos_in(&costs.groups, costs.lookups);
+    let sums = (costs.engine.sum, costs.nexthops.sum, costs.groups.sum);
+    printed(println!(rt;
+        "{name} resolve {routes}: {engine}.{engine_tenth} ns in the engine, {nexthops}.{nexthops_tenth} in the image, {groups}.{groups_tenth} by groups, sums {} {} {}",
+        sums.0, sums.1, sums.2
+    ))
 }
 
-/// A quotient, cut off behind its first decimal: the whole part and the tenths. By 0 it divides as
-/// by 1.
-fn tenths(dividend: u128, divisor: u64) -> (u128, u128)
-    ensures whole { result.0 * 10 + result.1 ≡ min (dividend * 10) (2 ^ 128 - 1) / max divisor 1 }
-    ensures tenths { result.1 ≤ 9 }
-{
-    let all = dividend.saturating_mul(10) / u128::from(divisor).max(1);
-    (all / 10, all % 10)
+/// The nanoseconds of a lookup in the fastest round of so many, and the tenths behind them.
+fn nanos_in(fastest: &Fastest, lookups: usize) -> (u128, u128) {
+    tenths(fastest.time.as_nanos(), lookups as u128)
 }

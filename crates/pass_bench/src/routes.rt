@@ -1,9 +1,9 @@
 //! Plans of drawn routes.
 use crate::OutOfMemory;
-use crate::draws::Draws;
-use crate::fault::Fault;
+use crate::draws::draw_block;
+use bench_kit::{Draws, Fault};
 use prefix_width::{Addr, Kind, Nexthop, Path, Prefix, Setting};
-use rib_store::{Command, Plan};
+use rib_store::{Command, Plan, PushError};
 use std::alloc::Global;
 use std::collections::BTreeSet;
 use std::sync::Arc;
@@ -21,7 +21,7 @@ pub(crate) struct Course {
 }
 
 /// Draws so many distinct prefixes. There may be fewer in the end where one is drawn often again.
-fn draw_prefixes(alloc: Global, count: u32) -> Result<Vec<Prefix<32>>, OutOfMemory> {
+pub(crate) fn draw_prefixes(alloc: Global, count: u32) -> Result<Vec<Prefix<32>>, OutOfMemory> {
     let mut draws = Draws::new(1);
     let mut seen = BTreeSet::new(alloc);
     let mut prefixes = Vec::new(alloc);
@@ -29,7 +29,7 @@ fn draw_prefixes(alloc: Global, count: u32) -> Result<Vec<Prefix<32>>, OutOfMemo
         if prefixes.len() >= count as usize {
             break;
         }
-        let (len, value) = draws.draw_block();
+        let (len, value) = draw_block(&mut draws);
         if let Some(prefix) = prefix_of(value, len) {
             if seen.insert(prefix)? {
                 prefixes.push(prefix)?;
@@ -44,22 +44,38 @@ fn prefix_of(value: u128, len: u8) -> Option<Prefix<32>> {
     Prefix::masked(Addr::new(value)?, len)
 }
 
-/// The path by one of 64 hosts of 192.0.2.0/24.
-fn path_by(host: u32) -> Option<Path<32>> {
+/// The path of this weight by one of 64 hosts of 192.0.2.0/24.
+fn path_by(host: u32, weight: u32) -> Option<Path<32>> {
     let gateway = Addr::new(0xc000_0200 + u128::from(host % 64))?;
-    Path::new(Nexthop::via(gateway, 0, 0), 1)
+    Path::new(Nexthop::via(gateway, 0, 0), weight)
 }
 
-/// An add of a route by a host.
-fn add(prefix: Prefix<32>, host: u32) -> Result<Command<32>, Fault> {
-    let path = path_by(host).ok_or(Fault::Table)?;
+/// An add of a route by a host, of this weight.
+pub(crate) fn add(prefix: Prefix<32>, host: u32, weight: u32) -> Result<Command<32>, Fault> {
+    let path = path_by(host, weight).ok_or(Fault::Unmade)?;
     Ok(Command::Add { prefix, path })
 }
 
 /// A change of a route to a host.
 fn change(prefix: Prefix<32>, host: u32) -> Result<Command<32>, Fault> {
-    let path = path_by(host).ok_or(Fault::Table)?;
+    let path = path_by(host, 1).ok_or(Fault::Unmade)?;
     Ok(Command::Change { prefix, path })
+}
+
+/// A choice of a module.
+pub(crate) fn set_module(kind: Kind) -> Command<32> {
+    Command::Algo {
+        setting: Setting::Fixed(kind),
+    }
+}
+
+/// Puts a command behind a plan's others.
+pub(crate) fn push(plan: &mut Plan<32>, command: Command<32>) -> Result<(), Fault> {
+    match plan.push(command) {
+        Ok(()) => Ok(()),
+        Err(PushError::OutOfMemory) => Err(Fault::OutOfMemory),
+        Err(_) => Err(Fault::Unmade),
+    }
 }
 
 /// A plan of these routes in this module, and then of so many changes.
@@ -70,13 +86,11 @@ fn plan_of(
     changes: u32,
 ) -> Result<Plan<32>, Fault> {
     let mut plan = Plan::new(alloc);
-    plan.push(Command::Algo {
-        setting: Setting::Fixed(kind),
-    })?;
+    push(&mut plan, set_module(kind))?;
     for place in 0..prefixes.len() {
-        plan.push(add(prefixes[place], (place % 64) as u32)?)?;
+        push(&mut plan, add(prefixes[place], (place % 64) as u32, 1)?)?;
     }
-    plan.push(Command::Sync)?;
+    push(&mut plan, Command::Sync)?;
     if prefixes.is_empty() {
         return Ok(plan);
     }
@@ -84,14 +98,14 @@ fn plan_of(
         let place = turn % prefixes.len();
         // Each turn over all routes has another host for each of them.
         let host = (place % 64 + 1 + turn / prefixes.len()) % 64;
-        plan.push(change(prefixes[place], host as u32)?)?;
-        plan.push(Command::Sync)?;
+        push(&mut plan, change(prefixes[place], host as u32)?)?;
+        push(&mut plan, Command::Sync)?;
     }
     Ok(plan)
 }
 
 /// So many addresses in the prefixes.
-fn addresses_in(
+pub(crate) fn addresses_in(
     alloc: Global,
     prefixes: &[Prefix<32>],
     count: usize,
@@ -125,7 +139,7 @@ pub(crate) fn course_of(
 ) -> Result<Course, Fault> {
     let prefixes = draw_prefixes(alloc, routes)?;
     let Ok(count) = u32::try_from(prefixes.len()) else {
-        return Err(Fault::Table);
+        return Err(Fault::Unmade);
     };
     let plan = Arc::new(alloc, plan_of(alloc, kind, &prefixes, changes)?)?;
     let addrs = addresses_in(alloc, &prefixes, addresses)?;

@@ -3,9 +3,8 @@ ghost use Rattle.std.specs.Prelude.{◌≡◌, ◌+◌, All, IfOk, OnOk, length}
 ghost use Rattle.fib_sync.specs.Lawful.{IsLawful};
 ghost use Rattle.fib_sync.specs.VersionNames.{fresh_at, names_at};
 
-use crate::clock::cpu_time;
-use crate::fault::Fault;
 use crate::fib::{Control, Publisher};
+use bench_kit::{Fault, cpu_time};
 use fib_pass::Ready;
 use fib_sync::Advance;
 use std::alloc::Global;
