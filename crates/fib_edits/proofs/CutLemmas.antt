@@ -8,7 +8,7 @@ use Rattle.std.proofs.lemmas.Bool.{cases_Bool, or_parts}
 use Rattle.std.proofs.lemmas.List.Elements.{All-cons, All-nil, All-head, All-tail}
 use Rattle.prefix_width.specs.Prefix.{Block}
 use Rattle.prefix_width.specs.Order.{block_cmp}
-use Rattle.nhgrp_slots.specs.PathList.{PathList}
+use Rattle.nhgrp_slots.specs.Spread.{Spread}
 use Rattle.module_trait.specs.Rows.{IsAscending, HaveIndexes, AreRows}
 use Rattle.module_trait.specs.View.{row_at, with_row}
 use Rattle.module_trait.specs.Edit.{IndexChange, IsEdit, IsIndex, undone_all}
@@ -53,7 +53,7 @@ untouched old new was is touched named_old named_new keeps same q none =
     (subst IsIndex (row_at-indexed new is q ∙ ap (option_map (numbered new)) (same q none)) (index_is (indexed new is) q (indexes-indexed new is named_new)))
     ∙ ap (option_map (numbered new)) (sym (same q none))
   where
-    by : (o : Option PathList) → paths_at was q ≡ o → IsIndex (option_map (numbered old) (paths_at was q)) → IsIndex (option_map (numbered new) (paths_at was q))
+    by : (o : Option Spread) → paths_at was q ≡ o → IsIndex (option_map (numbered old) (paths_at was q)) → IsIndex (option_map (numbered new) (paths_at was q))
         → option_map (numbered old) (paths_at was q) ≡ option_map (numbered new) (paths_at was q)
     by None h one two = ap (option_map (numbered old)) h ∙ sym (ap (option_map (numbered new)) h)
     by (Some paths) h one two =
@@ -187,7 +187,7 @@ view_starts n all = record {
   near = near_start (λ _. None) (index_at n all) (keys_of all) [] (λ _. refl) (λ q none. sym (ap (option_map (numbered n)) (absent all q none)));
 }
 
-pub view_step : (n : Naming) (all left rest : Table) (e : Block × PathList) (view new : List (Block × ℕ)) → Views n all left view → left ≡ e ∷ rest → new ≡ with_row view e.0 (index_at n all e.0) → Views n all rest new
+pub view_step : (n : Naming) (all left rest : Table) (e : Block × Spread) (view new : List (Block × ℕ)) → Views n all left view → left ≡ e ∷ rest → new ≡ with_row view e.0 (index_at n all e.0) → Views n all rest new
 view_step n all left rest e view new v is set = subst (Views n all rest) (sym set) (record {
   up = ascends_with view e.0 (index_at n all e.0) v.up;
   near = near_step (λ _. None) (index_at n all) e.0 (keys_of rest) view v.up (subst (λ rows. Nears (λ _. None) (index_at n all) (keys_of rows) view) is v.near);

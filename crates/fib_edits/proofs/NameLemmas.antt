@@ -12,7 +12,7 @@ use Rattle.std.proofs.lemmas.Cmp.{eq_by_cmp_equiv}
 use Rattle.std.proofs.lemmas.Map.Views.{IsSome-lookup_from_Contains}
 use Rattle.counted_map.proofs.CountMapLemmas.{eq_from_is_eq}
 use Rattle.prefix_width.specs.Limits.{last_index}
-use Rattle.nhgrp_slots.specs.PathList.{PathList, IsPathList}
+use Rattle.nhgrp_slots.specs.PathList.{IsPathList}
 use Rattle.nhgrp_slots.specs.Target.{target_cmp, target_of}
 use Rattle.nhgrp_slots.specs.declared.target.Target.{Target}
 use Rattle.nhgrp_slots.proofs.TargetOrder.{target_total}
@@ -20,7 +20,7 @@ use Rattle.nhop_index.specs.Book.{AreIndexes, Naming as IndexNaming}
 use Rattle.nhop_index.specs.Indexes.{least_unused, name_and, index_in, named, newest, window, next_names}
 use Rattle.nhop_index.proofs.LeastLemmas.{least_unused_is}
 use Rattle.nhop_index.proofs.VersionLemmas.{keys-named}
-use Rattle.rib_store.specs.Targets.{live, LeadToLive, target_of as led_to}
+use Rattle.rib_store.specs.Targets.{live, LeadToLive}
 use Rattle.rib_store.specs.Table.{Table}
 use Rattle.rib_store.proofs.TargetLemmas.{rows_lead}
 use Rattle.fib_edits.specs.Named.{number_in, AreNamed, Keeps}
@@ -94,18 +94,11 @@ indexes_are_kept w before targets used paths one two =
     (some_number (index_in target_cmp before (target_of paths)) one)
     (some_number (index_in target_cmp (named target_cmp before targets used) (target_of paths)) two)
 
--- both crates say the same of what paths lead to
-pub same_target : (w : ℕ) (paths : PathList) → led_to {w = w} paths ≡ target_of {w = w} paths
-same_target w [] = refl
-same_target w (p ∷ []) = refl
-same_target w (p ∷ q ∷ ps) = refl
-
 -- rows that lead to targets, each of which has an index, have indexes
 pub are_named : (w : ℕ) (names : List (Target w × ℕ)) (targets : List (Target w)) (rows : Table) → keys_of names ≡ targets → All (λ e. 1 ≤ e.1) names → LeadToLive targets rows → AreNamed (number_in names) rows
 are_named w names targets rows keys all lead =
-    All-weaker (λ paths. Contains targets (led_to {w = w} paths)) (λ paths. 1 ≤ number_in names paths)
-    (λ paths has. one_or_more (target_cmp {w = w}) target_total names all (target_of {w = w} paths)
-    (subst (λ ts. Contains ts (target_of {w = w} paths)) (sym keys) (subst (Contains targets) (same_target w paths) has)))
+    All-weaker (λ paths. Contains targets (target_of {w = w} paths)) (λ paths. 1 ≤ number_in names paths)
+    (λ paths has. one_or_more (target_cmp {w = w}) target_total names all (target_of {w = w} paths) (subst (λ ts. Contains ts (target_of {w = w} paths)) (sym keys) has))
     (values_of rows) lead
 
 -- the same of a version's indexes, as the book gives them
@@ -126,14 +119,14 @@ module _ (w : ℕ) (before : List (Target w × ℕ)) (used : List ℕ) (names : 
   keeps_named targets is paths one two =
       subst (λ n. 1 ≤ number_in n paths → number_in n paths ≡ number_in before paths) (sym is) (indexes_are_kept w before targets used paths one) two
 
-  pub rows_named : (rows : Table) → All (λ e. 1 ≤ e.1) before → All IsPathList (values_of rows) → names ≡ named target_cmp before (live {w = w} rows) used → AreNamed (number_in names) rows
+  pub rows_named : (rows : Table) → All (λ e. 1 ≤ e.1) before → All (λ s. IsPathList s.paths) (values_of rows) → names ≡ named target_cmp before (live {w = w} rows) used → AreNamed (number_in names) rows
   rows_named rows all lists is = subst (λ n. AreNamed (number_in n) rows) (sym is) (rows_are_named w before rows used all lists)
 
 module _ (w K : ℕ) (versions : List (List (Target w × ℕ))) (names : List (Target w × ℕ)) where
   pub keeps_next : (targets : List (Target w)) → names ≡ next_names target_cmp K versions targets → Keeps (number_in (newest versions)) (number_in names)
   keeps_next targets is = keeps_named w (newest versions) (window K versions) names targets is
 
-  pub named_next : (rows : Table) → All (λ e. 1 ≤ e.1) (newest versions) → All IsPathList (values_of rows) → names ≡ next_names target_cmp K versions (live {w = w} rows) → AreNamed (number_in names) rows
+  pub named_next : (rows : Table) → All (λ e. 1 ≤ e.1) (newest versions) → All (λ s. IsPathList s.paths) (values_of rows) → names ≡ next_names target_cmp K versions (live {w = w} rows) → AreNamed (number_in names) rows
   named_next rows all lists is = rows_named w (newest versions) (window K versions) names rows all lists is
 
   pub positive_next : (targets : List (Target w)) → All (λ e. 1 ≤ e.1) (newest versions) → names ≡ next_names target_cmp K versions targets → All (λ e. 1 ≤ e.1) names

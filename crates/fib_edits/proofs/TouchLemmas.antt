@@ -12,7 +12,8 @@ use Rattle.std.proofs.lemmas.Bool.{cases_Bool, false≢true, or_parts, or_from}
 use Rattle.prefix_width.specs.Prefix.{Block}
 use Rattle.prefix_width.specs.Path.{WeightedHop}
 use Rattle.prefix_width.specs.Order.{block_cmp}
-use Rattle.nhgrp_slots.specs.PathList.{PathList, put_path, clashes, goes_by, has_via, left_by, paths_left}
+use Rattle.nhgrp_slots.specs.PathList.{put_path, clashes, goes_by}
+use Rattle.nhgrp_slots.specs.Spread.{Spread, has_via, spread, without}
 use Rattle.module_trait.proofs.KeyLemmas.{block_exact, at_is}
 use Rattle.rib_store.specs.declared.command.Command.{Command}
 use Rattle.rib_store.specs.declared.command.Command.TheVariants.{Add, Change, Delete, Flush, Tick, Sync, Algo}
@@ -21,12 +22,13 @@ use Rattle.rib_store.specs.declared.command.Reply.TheVariants.{Added, Joined, Ch
 use Rattle.rib_store.specs.declared.command.Refusal.TheVariants.{Exists, NotFound, PathsFull, TableFull, TargetsFull}
 use Rattle.rib_store.specs.Limits.{routes_max}
 use Rattle.rib_store.specs.Plan.{Planned}
+use Rattle.rib_store.specs.Profile.{keeps}
 use Rattle.rib_store.specs.Table.{Table, Outcome, paths_at, put_row, drop_row, left_by_flush, live_count, refused, limited, placed, settled, dropped, added, changed, shortened, deleted, apply, table_after}
 use Rattle.rib_store.proofs.TableLemmas.{table_after_more}
 use Rattle.fib_edits.specs.Touching.{is_among, flushed_of, touched_by, SameBut, Gains}
 use Rattle.fib_edits.proofs.EditLemmas.{not_at, at_itself}
 
-skip : (row : Block × PathList) (rows : Table) (q : Block) → q ≢ row.0 → paths_at (row ∷ rows) q ≡ paths_at rows q
+skip : (row : Block × Spread) (rows : Table) (q : Block) → q ≢ row.0 → paths_at (row ∷ rows) q ≡ paths_at rows q
 skip row rows q n = ap (λ b. cond b (Some row.1) (paths_at rows q)) (not_at q row.0 n)
 
 -- a row that is taken out or put in leaves those of other prefixes
@@ -39,7 +41,7 @@ other-drop (e ∷ rows) p q n =
       | inr h ↦ ap (λ b. paths_at (cond b rows (e ∷ drop_row rows p)) q) h ∙ ap (cond (is_at (block_cmp q) e.0) (Some e.1)) rest
     ]
 
-other-put : (rows : Table) (p q : Block) (paths : PathList) → p ≢ q → paths_at (put_row rows p paths) q ≡ paths_at rows q
+other-put : (rows : Table) (p q : Block) (paths : Spread) → p ≢ q → paths_at (put_row rows p paths) q ≡ paths_at rows q
 other-put [] p q paths n = skip (p, paths) [] q (λ x. n (sym x))
 other-put (e ∷ rows) p q paths n = by (block_cmp p e.0) refl (other-put rows p q paths n)
   where
@@ -75,53 +77,53 @@ module _ (most : ℕ) (rows : Table) (q : Block) where
       by false true = refl
       by false false = h
 
-  stays_settled : (p : Block) (paths : PathList) (reply : Reply) → p ≢ q → Stays (settled most rows p paths reply)
+  stays_settled : (p : Block) (paths : Spread) (reply : Reply) → p ≢ q → Stays (settled most rows p paths reply)
   stays_settled p paths reply n = stays_limited (placed rows p paths reply) (other-put rows p q paths n)
 
   stays_dropped : (p : Block) → p ≢ q → Stays (dropped rows p)
   stays_dropped p n = other-drop rows p q n
 
-  stays_added : (p : Block) (path : WeightedHop) (old : Option PathList) → p ≢ q → Stays (added (settled most) rows p path old)
-  stays_added p path None n = stays_settled p (path ∷ []) Added n
-  stays_added p path (Some paths) n = by (clashes paths path) (nat_le 64 (length paths))
+  stays_added : (p : Block) (path : WeightedHop) (old : Option Spread) → p ≢ q → Stays (added (settled most) rows p path old)
+  stays_added p path None n = stays_settled p (spread (path ∷ [])) Added n
+  stays_added p path (Some old) n = by (clashes old.paths path) (nat_le 64 (length old.paths))
     where
-      by : (s t : Bool) → Stays (cond s (refused rows Exists) (cond t (refused rows PathsFull) (settled most rows p (put_path paths path) Joined)))
+      by : (s t : Bool) → Stays (cond s (refused rows Exists) (cond t (refused rows PathsFull) (settled most rows p (spread (put_path old.paths path)) Joined)))
       by true t = refl
       by false true = refl
-      by false false = stays_settled p (put_path paths path) Joined n
+      by false false = stays_settled p (spread (put_path old.paths path)) Joined n
 
-  stays_changed : (p : Block) (path : WeightedHop) (old : Option PathList) → p ≢ q → Stays (changed (settled most) rows p path old)
+  stays_changed : (p : Block) (path : WeightedHop) (old : Option Spread) → p ≢ q → Stays (changed (settled most) rows p path old)
   stays_changed p path None n = refl
-  stays_changed p path (Some paths) n = stays_settled p (path ∷ []) Changed n
+  stays_changed p path (Some old) n = stays_settled p (spread (path ∷ [])) Changed n
 
-  stays_shortened : (p : Block) (left : Option PathList) → p ≢ q → Stays (shortened (settled most) rows p left)
+  stays_shortened : (p : Block) (left : Option Spread) → p ≢ q → Stays (shortened (settled most) rows p left)
   stays_shortened p None n = stays_dropped p n
   stays_shortened p (Some paths) n = stays_settled p paths Deleted n
 
-  stays_deleted : (p : Block) (gateway : Option ℕ) (old : Option PathList) → p ≢ q → Stays (deleted (settled most) rows p gateway old)
-  stays_deleted p gateway None n = refl
-  stays_deleted p None (Some paths) n = stays_dropped p n
-  stays_deleted p (Some gateway) (Some paths) n = by (list_any (goes_by gateway) paths)
+  stays_deleted : (keep : Bool) (p : Block) (gateway : Option ℕ) (old : Option Spread) → p ≢ q → Stays (deleted keep (settled most) rows p gateway old)
+  stays_deleted keep p gateway None n = refl
+  stays_deleted keep p None (Some old) n = stays_dropped p n
+  stays_deleted keep p (Some gateway) (Some old) n = by (list_any (goes_by gateway) old.paths)
     where
-      by : (s : Bool) → Stays (cond s (shortened (settled most) rows p (paths_left (left_by gateway paths))) (refused rows NotFound))
-      by true = stays_shortened p (paths_left (left_by gateway paths)) n
+      by : (s : Bool) → Stays (cond s (shortened (settled most) rows p (without keep gateway old)) (refused rows NotFound))
+      by true = stays_shortened p (without keep gateway old) n
       by false = refl
 
   among_one : (p : Block) → is_among q (p ∷ []) ≡ false → p ≢ q
   among_one p h same = false≢true (sym (or_parts (is_at (block_cmp q) p) false h).0 ∙ subst (λ x. is_at (block_cmp x) p ≡ true) same (at_itself p))
 
-  stays : {w : _} (c : Command w) → is_among q (touched_by rows c) ≡ false → Stays (apply most rows c)
-  stays (Add p path) h = stays_added p path (paths_at rows p) (among_one p h)
-  stays (Change p path) h = stays_changed p path (paths_at rows p) (among_one p h)
-  stays (Delete p gateway) h = stays_deleted p gateway (paths_at rows p) (among_one p h)
-  stays Flush h = left-flush rows q h
-  stays (Tick ms) h = refl
-  stays Sync h = refl
-  stays (Algo setting) h = refl
+  stays : {w : _} (profile : ℕ) (c : Command w) → is_among q (touched_by rows c) ≡ false → Stays (apply profile most rows c)
+  stays profile (Add p path) h = stays_added p path (paths_at rows p) (among_one p h)
+  stays profile (Change p path) h = stays_changed p path (paths_at rows p) (among_one p h)
+  stays profile (Delete p gateway) h = stays_deleted (keeps profile) p gateway (paths_at rows p) (among_one p h)
+  stays profile Flush h = left-flush rows q h
+  stays profile (Tick ms) h = refl
+  stays profile Sync h = refl
+  stays profile (Algo setting) h = refl
 
 -- a prefix that the command doesn't touch keeps its row
-pub untouched_row : {w : _} (most : ℕ) (rows : Table) (c : Command w) → SameBut (touched_by rows c) rows (apply most rows c).table
-untouched_row most rows c q h = stays most rows q c h
+pub untouched_row : {w : _} (profile most : ℕ) (rows : Table) (c : Command w) → SameBut (touched_by rows c) rows (apply profile most rows c).table
+untouched_row profile most rows c q h = stays most rows q profile c h
 
 -- ---- what was touched since a version
 
@@ -129,16 +131,16 @@ pub touched_none : (rows : Table) → SameBut [] rows rows
 touched_none rows q none = refl
 
 -- and by one command more
-pub touched_on : {w : _} (most : ℕ) (was is : Table) (c : Command w) (old new : List Block) → SameBut old was is → Gains old (touched_by is c) new → SameBut new was (apply most is c).table
-touched_on most was is c old new same gains q none =
+pub touched_on : {w : _} (profile most : ℕ) (was is : Table) (c : Command w) (old new : List Block) → SameBut old was is → Gains old (touched_by is c) new → SameBut new was (apply profile most is c).table
+touched_on profile most was is c old new same gains q none =
     let g = gains q none in
-    untouched_row most is c q g.1 ∙ same q g.0
+    untouched_row profile most is c q g.1 ∙ same q g.0
 
 -- and by the next command of a plan
 pub touched_next : {w : _} (most : ℕ) (plan : Planned w) (was is : Table) (n : ℕ) (c : Command w) (old new : List Block) → is ≡ table_after most plan n → slice_get plan.commands n ≡ Some c
     → SameBut old was is → Gains old (touched_by is c) new → SameBut new was (table_after most plan (n + 1))
 touched_next most plan was is n c old new at here same gains =
-    subst (SameBut new was) (ap (λ (rows : Table). (apply most rows c).table) at ∙ sym (table_after_more most plan n c here)) (touched_on most was is c old new same gains)
+    subst (SameBut new was) (ap (λ (rows : Table). (apply plan.profile most rows c).table) at ∙ sym (table_after_more most plan n c here)) (touched_on plan.profile most was is c old new same gains)
 
 -- more prefixes do no harm
 pub touched_more : (was is : Table) (old new : List Block) → SameBut old was is → Gains old [] new → SameBut new was is
@@ -167,20 +169,20 @@ gains_one old p new is q none = by old (subst (λ ks. is_among q ks ≡ false) i
 abbrev pub Collects : List Block → Table → Table → List Block → Type 0
 Collects start all left now = (q : Block) → is_among q now ≡ false → (is_among q start ≡ false) × (is_among q (flushed_of all) ≡ is_among q (flushed_of left))
 
-among_flushed : (q : Block) (e : Block × PathList) (rest : Table) (t : Bool) → has_via e.1 ≡ t → is_among q (flushed_of (e ∷ rest)) ≡ is_among q (keys_of (cond t (e ∷ filter (λ row. has_via row.1) rest) (filter (λ row. has_via row.1) rest)))
+among_flushed : (q : Block) (e : Block × Spread) (rest : Table) (t : Bool) → has_via e.1 ≡ t → is_among q (flushed_of (e ∷ rest)) ≡ is_among q (keys_of (cond t (e ∷ filter (λ row. has_via row.1) rest) (filter (λ row. has_via row.1) rest)))
 among_flushed q e rest t h = ap (λ b. is_among q (keys_of (cond b (e ∷ filter (λ row. has_via row.1) rest) (filter (λ row. has_via row.1) rest)))) h
 
 pub collect_starts : (start : List Block) (all : Table) → Collects start all all start
 collect_starts start all q none = (none, refl)
 
-pub collect_has : (start : List Block) (all left rest : Table) (e : Block × PathList) (now more : List Block) → Collects start all left now → left ≡ e ∷ rest → has_via e.1 ≡ true
+pub collect_has : (start : List Block) (all left rest : Table) (e : Block × Spread) (now more : List Block) → Collects start all left now → left ≡ e ∷ rest → has_via e.1 ≡ true
     → Gains now (e.0 ∷ []) more → Collects start all rest more
 collect_has start all left rest e now more so is via gains q none =
     let g = gains q none in
     let before = so q g.0 in
     (before.0, before.1 ∙ ap (λ rows. is_among q (flushed_of rows)) is ∙ among_flushed q e rest true via ∙ ap (λ b. b || is_among q (flushed_of rest)) (or_parts (is_at (block_cmp q) e.0) false g.1).0)
 
-pub collect_skips : (start : List Block) (all left rest : Table) (e : Block × PathList) (now : List Block) → Collects start all left now → left ≡ e ∷ rest → has_via e.1 ≡ false → Collects start all rest now
+pub collect_skips : (start : List Block) (all left rest : Table) (e : Block × Spread) (now : List Block) → Collects start all left now → left ≡ e ∷ rest → has_via e.1 ≡ false → Collects start all rest now
 collect_skips start all left rest e now so is via q none =
     let before = so q none in
     (before.0, before.1 ∙ ap (λ rows. is_among q (flushed_of rows)) is ∙ among_flushed q e rest false via)

@@ -2,22 +2,22 @@
 use Rattle.std.specs.Prelude.{◌≡◌, ℕ, ◌≤◌, List, map, All, Option, option_map, unwrap_or}
 use Rattle.std.specs.Map.{values_of}
 use Rattle.prefix_width.specs.Prefix.{Block}
-use Rattle.nhgrp_slots.specs.PathList.{PathList}
+use Rattle.nhgrp_slots.specs.Spread.{Spread}
 use Rattle.nhgrp_slots.specs.Target.{target_cmp, target_of}
 use Rattle.nhgrp_slots.specs.declared.target.Target.{Target}
 use Rattle.nhop_index.specs.Indexes.{index_in}
 use Rattle.rib_store.specs.Table.{Table, paths_at}
 
 -- the index of what the paths lead to, 0 where it has none
-abbrev pub number_in : {w : _} → List (Target w × ℕ) → PathList → ℕ
+abbrev pub number_in : {w : _} → List (Target w × ℕ) → Spread → ℕ
 number_in {w} names paths = unwrap_or (index_in (target_cmp {w = w}) names (target_of paths)) 0
 
 -- the index of what some paths lead to, 0 where there is none
 abbrev pub Naming : Type 0
-Naming = PathList → ℕ
+Naming = Spread → ℕ
 
 -- the index that a naming gives
-abbrev pub numbered : Naming → PathList → ℕ
+abbrev pub numbered : Naming → Spread → ℕ
 numbered n paths = n paths
 
 -- the rows with their indexes
@@ -34,4 +34,4 @@ AreNamed n rows = All (λ paths. 1 ≤ numbered n paths) (values_of rows)
 
 -- what has an index in both keeps it
 abbrev pub Keeps : Naming → Naming → Type 0
-Keeps old new = (paths : PathList) → 1 ≤ numbered old paths → 1 ≤ numbered new paths → numbered new paths ≡ numbered old paths
+Keeps old new = (paths : Spread) → 1 ≤ numbered old paths → 1 ≤ numbered new paths → numbered new paths ≡ numbered old paths

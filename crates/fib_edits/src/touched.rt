@@ -51,7 +51,7 @@ impl<const W: u32> Touched<W> {
         command: &Command<W>,
         rib: &Rib<W, LIVE>,
     ) -> Result<(), OutOfMemory>
-        ensures ok { OnOk result (Gains self.old (touched_by rib.now command.now) self.new) }
+        ensures ok { OnOk result (Gains self.old (touched_by rib.now.rows command.now) self.new) }
         ensures kept { Gains self.old [] self.new }
     {
         match *command {
@@ -90,9 +90,9 @@ impl<const W: u32> Touched<W> {
         indexes: &Indexes<W, K, LIVE>,
         view: &RouteView<W>,
     ) -> Result<Vec<Edit<W>>, OutOfMemory>
-        requires named { AreNamed (number_in indexes.now.names) rib.now }
+        requires named { AreNamed (number_in indexes.now.names) rib.now.rows }
         requires indexes { HaveIndexes view.now }
-        ensures { IfOk result (λ edits. edits.items ≡ edits_at (row_at view.now) (index_at (number_in indexes.now.names) rib.now) self.now) }
+        ensures { IfOk result (λ edits. edits.items ≡ edits_at (row_at view.now) (index_at (number_in indexes.now.names) rib.now.rows) self.now) }
     {
         let mut edits = Vec::new(alloc);
         for prefix in self.prefixes.iter() {
@@ -115,7 +115,7 @@ impl<const W: u32> Touched<W> {
 
     /// Adds the prefixes of the routes that a flush takes out.
     fn add_flushed<const LIVE: u32>(&mut self, rib: &Rib<W, LIVE>) -> Result<(), OutOfMemory>
-        ensures ok { OnOk result (Gains self.old (flushed_of rib.now) self.new) }
+        ensures ok { OnOk result (Gains self.old (flushed_of rib.now.rows) self.new) }
         ensures kept { Gains self.old [] self.new }
     {
         for (prefix, paths) in rib.iter() {

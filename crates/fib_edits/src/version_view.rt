@@ -17,7 +17,7 @@ pub fn view_of<const W: u32, const K: u64, const LIVE: u32>(
     rib: &Rib<W, LIVE>,
     indexes: &Indexes<W, K, LIVE>,
 ) -> Result<RouteView<W>, OutOfMemory>
-    ensures { IfOk result (λ view. view ≡ indexed (number_in indexes.now.names) rib.now) }
+    ensures { IfOk result (λ view. view ≡ indexed (number_in indexes.now.names) rib.now.rows) }
 {
     // What every table knows of its rows.
     let _ascending = rib.len();
@@ -47,7 +47,7 @@ pub(crate) fn index_at<const W: u32, const K: u64, const LIVE: u32>(
     indexes: &Indexes<W, K, LIVE>,
     prefix: &Prefix<W>,
 ) -> Option<u16>
-    ensures { result ≡ index_at (number_in indexes.now.names) rib.now prefix.now }
+    ensures { result ≡ index_at (number_in indexes.now.names) rib.now.rows prefix.now }
 {
     match rib.get(prefix) {
         None => None,

@@ -1,6 +1,6 @@
 -- Each nexthop that a table of a plan answers is one that a command of the plan names.
-use Rattle.std.proofs.Common.{◌≡◌, ℕ, suc, zero, ◌<◌, ◌++◌, ◌%◌, Bool, true, false, cond, nat_lt, ◌||◌, refl, sym, ◌∙◌, ap, subst, Option, Some, None, List, [], ◌∷◌, length, filter, not}
-use Rattle.std.specs.Prelude.{All, IfSome, IsSome, option_and_then, slice_get, is_some, replicate}
+use Rattle.std.proofs.Common.{◌≡◌, ℕ, suc, zero, ◌<◌, ◌%◌, Bool, true, false, cond, nat_lt, ◌||◌, refl, sym, ◌∙◌, ap, subst, Option, Some, None, List, [], ◌∷◌, length, filter, not}
+use Rattle.std.specs.Prelude.{All, IfSome, IsSome, option_and_then, slice_get, is_some}
 use Rattle.std.specs.List.{list_any, filter_map, cons_option}
 use Rattle.std.specs.Map.{values_of}
 use Rattle.std.specs.BTreeMap.{is_at}
@@ -16,8 +16,9 @@ use Rattle.prefix_width.specs.Nexthop.{Hop}
 use Rattle.prefix_width.specs.Longest.{longer, longest}
 use Rattle.prefix_width.specs.Order.{block_cmp, hop_cmp}
 use Rattle.prefix_width.proofs.OrderLemmas.{hop_total}
-use Rattle.nhgrp_slots.specs.PathList.{PathList, goes_by, has_via, hops, put_path}
-use Rattle.nhgrp_slots.specs.Slots.{fill, pick, shares_of, size_of, weights}
+use Rattle.nhgrp_slots.specs.PathList as list
+use Rattle.nhgrp_slots.specs.PathList.{PathList, goes_by, put_path}
+use Rattle.nhgrp_slots.specs.Spread.{Spread, has_via, pick}
 use Rattle.rib_store.specs.declared.command.Command.{Command}
 use Rattle.rib_store.specs.declared.command.Command.TheVariants.{Add, Change, Delete, Flush, Tick, Sync, Algo}
 use Rattle.rib_store.specs.Answer.{answer}
@@ -34,6 +35,9 @@ IsAmong hs h = list_any (is_at (hop_cmp h)) hs ≡ true
 abbrev pub GoesAmong : List Hop → WeightedHop → Type 0
 GoesAmong hs p = IsAmong hs p.nexthop
 
+abbrev pub AllAmong : List Hop → Spread → Type 0
+AllAmong hs s = All (GoesAmong hs) s.paths
+
 -- ---- every path of every table
 
 module _ (hs : List Hop) where
@@ -47,16 +51,16 @@ module _ (hs : List Hop) where
         | false ↦ All-cons (GoesAmong hs) q (put_path qs p) first later
       ]
 
-  go_among : IsKept (λ rows. All (All (GoesAmong hs)) (values_of rows)) (All (GoesAmong hs)) (GoesAmong hs)
+  go_among : IsKept (λ rows. All (AllAmong hs) (values_of rows)) (AllAmong hs) (GoesAmong hs)
   go_among = record {
-    start = All-nil (All (GoesAmong hs));
-    put = λ rows b paths is list. All-values-insert_entry block_cmp b paths (All (GoesAmong hs)) rows is list;
-    drop = λ rows b is. All-map-remove_entry (is_at (block_cmp b)) (λ e. e.1) (All (GoesAmong hs)) rows is;
-    flush = λ rows is. all-kept (All (GoesAmong hs)) (λ row. not (has_via row.1)) rows is;
-    found = λ rows b is. IfSome-lookup_from_All (All (GoesAmong hs)) (is_at (block_cmp b)) rows is;
+    start = All-nil (AllAmong hs);
+    put = λ rows b paths is list. All-values-insert_entry block_cmp b paths (AllAmong hs) rows is list;
+    drop = λ rows b is. All-map-remove_entry (is_at (block_cmp b)) (λ e. e.1) (AllAmong hs) rows is;
+    flush = λ rows is. all-kept (AllAmong hs) (λ row. not (has_via row.1)) rows is;
+    found = λ rows b is. IfSome-lookup_from_All (AllAmong hs) (is_at (block_cmp b)) rows is;
     one = λ p has. All-cons (GoesAmong hs) p [] has (All-nil (GoesAmong hs));
-    join = λ paths p list has apart room. put_among paths p list has;
-    left = λ g paths list some. All-filter (λ p. not (goes_by g p)) (GoesAmong hs) paths list;
+    join = λ s p list has apart room. put_among s.paths p list has;
+    left = λ keep g s list some. All-filter (λ p. not (goes_by g p)) (GoesAmong hs) s.paths list;
   }
 
 among_more : (o : Option Hop) (hs : List Hop) (h : Hop) → IsAmong hs h → IsAmong (cons_option o hs) h
@@ -89,50 +93,45 @@ module _ {w : ℕ} where
       All-cons (Brings (GoesAmong (cons_option (named_by c) hs))) c cs (brought c hs)
       (All-weaker (Brings (GoesAmong hs)) (Brings (GoesAmong (cons_option (named_by c) hs))) (λ d b. brought_more (named_by c) hs d b) cs (all_brought cs))
 
-  tables_among : (most : ℕ) (plan : Planned w) (c : ℕ) → All (All (GoesAmong (named plan))) (values_of (table_after most plan c))
+  tables_among : (most : ℕ) (plan : Planned w) (c : ℕ) → All (AllAmong (named plan)) (values_of (table_after most plan c))
   tables_among most plan c = tables_keep (go_among (named plan)) most plan c (all_brought plan.commands)
 
 -- ---- what is picked of a row
 
 -- what holds of each row's paths holds of those of the longest
-longest_keeps : (P : PathList → Type 0) (w a : ℕ) (rows : Table) → All P (values_of rows) → IfSome (longest w rows a) (λ row. P row.1)
+longest_keeps : (P : Spread → Type 0) (w a : ℕ) (rows : Table) → All P (values_of rows) → IfSome (longest w rows a) (λ row. P row.1)
 longest_keeps P w a [] all = tt
 longest_keeps P w a (r ∷ rs) all = go (contains w r.0 a) (longest w rs a) (longest_keeps P w a rs (All-tail P r.1 (values_of rs) all))
   where
     here : P r.1
     here = All-head P r.1 (values_of rs) all
 
-    go : (b : Bool) (o : Option (Block × PathList)) → IfSome o (λ row. P row.1) → IfSome (longer (cond b (Some r) None) o) (λ row. P row.1)
+    go : (b : Bool) (o : Option (Block × Spread)) → IfSome o (λ row. P row.1) → IfSome (longer (cond b (Some r) None) o) (λ row. P row.1)
     go false o h = h
     go true None h = here
     go true (Some s) h = elim (nat_lt r.0.len s.0.len) as (λ t. IfSome (cond t (Some s) (Some r)) (λ row. P row.1)) [ true ↦ h | false ↦ here ]
 
 module _ (P : Hop → Type 0) where
-  all_copies : (n : ℕ) (h : Hop) (hs : List Hop) → P h → All P hs → All P (replicate n h ++ hs)
-  all_copies zero h hs p all = all
-  all_copies (suc n) h hs p all = All-cons P h (replicate n h ++ hs) p (all_copies n h hs p all)
-
-  all_filled : (ns : List ℕ) (hs : List Hop) → All P hs → All P (fill ns hs)
-  all_filled [] hs all = All-nil P
-  all_filled (n ∷ ns) [] all = All-nil P
-  all_filled (n ∷ ns) (h ∷ hs) all = all_copies n h (fill ns hs) (All-head P h hs all) (all_filled ns hs (All-tail P h hs all))
-
   got_one : (hs : List Hop) (n : ℕ) (h : Hop) → All P hs → slice_get hs n ≡ Some h → P h
   got_one [] n h all at = absurd (none-some h at)
   got_one (k ∷ hs) zero h all at = subst P (same_Some k h at) (All-head P k hs all)
   got_one (k ∷ hs) (suc n) h all at = got_one hs n h (All-tail P k hs all) at
 
-  all_hops : (ps : PathList) → All (λ p. P p.nexthop) ps → All P (hops ps)
+  all_hops : (ps : PathList) → All (λ p. P p.nexthop) ps → All P (list.hops ps)
   all_hops [] all = All-nil P
-  all_hops (p ∷ ps) all = All-cons P p.nexthop (hops ps) (All-head (λ q. P q.nexthop) p ps all) (all_hops ps (All-tail (λ q. P q.nexthop) p ps all))
+  all_hops (p ∷ ps) all = All-cons P p.nexthop (list.hops ps) (All-head (λ q. P q.nexthop) p ps all) (all_hops ps (All-tail (λ q. P q.nexthop) p ps all))
 
-  picked_one : (ps : PathList) (flow : ℕ) (h : Hop) → All (λ p. P p.nexthop) ps → pick ps flow ≡ Some h → P h
-  picked_one ps flow h all at = got_one (fill (shares_of (weights ps)) (hops ps)) (flow % size_of (weights ps)) h (all_filled (shares_of (weights ps)) (hops ps) (all_hops ps all)) at
+  picked_one : (s : Spread) (flow : ℕ) (h : Hop) → All (λ p. P p.nexthop) s.paths → pick s flow ≡ Some h → P h
+  picked_one s flow h all at = go (slice_get s.layout (flow % length s.layout)) at
+    where
+      go : (o : Option ℕ) → option_and_then (slice_get (list.hops s.paths)) o ≡ Some h → P h
+      go None at = absurd (none-some h at)
+      go (Some i) at = got_one (list.hops s.paths) i h (all_hops s.paths all) at
 
-answered_one : (P : Hop → Type 0) (w : ℕ) (rows : Table) (a flow : ℕ) (h : Hop) → All (All (λ p. P p.nexthop)) (values_of rows) → answer w rows a flow ≡ Some h → P h
-answered_one P w rows a flow h all at = go (longest w rows a) (longest_keeps (All (λ p. P p.nexthop)) w a rows all) at
+answered_one : (P : Hop → Type 0) (w : ℕ) (rows : Table) (a flow : ℕ) (h : Hop) → All (λ s. All (λ p. P p.nexthop) s.paths) (values_of rows) → answer w rows a flow ≡ Some h → P h
+answered_one P w rows a flow h all at = go (longest w rows a) (longest_keeps (λ s. All (λ p. P p.nexthop) s.paths) w a rows all) at
   where
-    go : (o : Option (Block × PathList)) → IfSome o (λ row. All (λ p. P p.nexthop) row.1) → option_and_then (λ row. pick row.1 flow) o ≡ Some h → P h
+    go : (o : Option (Block × Spread)) → IfSome o (λ row. All (λ p. P p.nexthop) row.1.paths) → option_and_then (λ row. pick row.1 flow) o ≡ Some h → P h
     go None k e = absurd (none-some h e)
     go (Some row) k e = picked_one P row.1 flow h k e
 

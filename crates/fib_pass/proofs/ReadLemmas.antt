@@ -17,7 +17,8 @@ use Rattle.nhop_index.specs.Laws.{IsNamed}
 use Rattle.nhop_index.proofs.VersionLemmas.{keys-named}
 use Rattle.rib_store.specs.Plan.{Planned}
 use Rattle.rib_store.specs.Table.{Table}
-use Rattle.rib_store.specs.Targets.{live, target_of}
+use Rattle.nhgrp_slots.specs.Target.{target_of}
+use Rattle.rib_store.specs.Targets.{live}
 use Rattle.rib_store.proofs.TargetLemmas.{live_ascends}
 use Rattle.plan_cut.specs.VersionTable.{table_at}
 use Rattle.plan_cut.specs.Versions.{Version}

@@ -159,7 +159,7 @@ fn put_together<const W: u32, const K: u64, const LIVE: u32>(
 
 impl<const W: u32, const K: u64, const LIVE: u32> Publisher<W, K, LIVE> {
     /// Takes all passes in, and answers what they did. Where there are fewer passes than were
-    /// started, all come back, and so they do for want of memory.
+    /// started, all come back, and so they do for want of memory. All passes are of this fib.
     pub fn close(
         self,
         alloc: Global,

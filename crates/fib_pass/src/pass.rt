@@ -123,7 +123,7 @@ impl<const W: u32, const K: u64, const LIVE: u32> Pass<W, K, LIVE> {
         }
     }
 
-    /// Takes a note in: what is seen is the greater of the two.
+    /// Takes a note in: what is seen is the greater of the two. The note is of the same fib.
     pub fn learn(&mut self, note: FibNote<W, K, LIVE>)
         requires { note.table ≡ self.old.seat.table }
         ensures lookups { self.new.lookups ≡ self.old.lookups }

@@ -136,7 +136,8 @@ impl<const W: u32, const K: u64, const LIVE: u32> Publisher<W, K, LIVE> {
         self.seat.version()
     }
 
-    /// Readies an image of the next version: a handle of it for each pass.
+    /// Readies an image of the next version: a handle of it for each pass. The image is lawful for
+    /// the next version, as the control of the same plan gives it.
     pub fn prepare(
         &self,
         alloc: Global,
@@ -154,7 +155,7 @@ impl<const W: u32, const K: u64, const LIVE: u32> Publisher<W, K, LIVE> {
 
     /// Scans the passes that aren't passed, in order. Where none holds the next version up, it
     /// publishes that, and answers it. Else the passes that were passed stay so, and what was ready
-    /// comes back.
+    /// comes back. What is ready was readied for that version.
     pub fn try_publish(&mut self, ready: Ready<W, K, LIVE>) -> Result<u64, Again<W, K, LIVE>>
         requires count { length ready.values ≡ self.old.own.readers }
         requires lawful { All (λ image. IsLawful LIVE self.old.key (names_at K LIVE self.old.key (self.old.own.version + 1)) (self.old.own.version + 1) image) ready.values }

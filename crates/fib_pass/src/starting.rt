@@ -38,7 +38,8 @@ fn passes_of<const W: u32, const K: u64, const LIVE: u32>(
 }
 
 /// A fib at version 0: its publisher and its passes, in order. The image is lawful for version 0 of
-/// the plan. `BadCount` exactly where the number of passes isn't from 1 to 64.
+/// the plan. `BadCount` exactly where the number of passes isn't from 1 to 64. There are 2 to 8
+/// banks, and room for 1 to 4,095 live targets.
 pub fn fib_start<const W: u32, const K: u64, const LIVE: u32>(
     alloc: Global,
     plan: &Arc<Plan<W>, Global>,

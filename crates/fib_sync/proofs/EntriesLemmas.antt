@@ -20,10 +20,11 @@ use Rattle.prefix_width.specs.Nexthop.{Hop}
 use Rattle.prefix_width.specs.Path.{WeightedHop}
 use Rattle.nhgrp_slots.specs.declared.target.Target.{Target}
 use Rattle.nhgrp_slots.specs.declared.target.Target.TheVariants.{One, Many}
-use Rattle.nhgrp_slots.specs.PathList.{PathList, hops}
-use Rattle.nhgrp_slots.specs.Slots.{HaveWeights, pick, weights}
-use Rattle.nhgrp_slots.proofs.SlotLemmas.{slots_hold_picked}
-use Rattle.rib_store.specs.Weights.{HasWeight}
+use Rattle.nhgrp_slots.specs.PathList as list
+use Rattle.nhgrp_slots.specs.PathList.{PathList}
+use Rattle.nhgrp_slots.specs.Slots.{weights}
+use Rattle.nhgrp_slots.specs.Spread.{Spread, IsSpread, hops, pick}
+use Rattle.nhgrp_slots.proofs.SpreadLemmas.{slots_hold_picked}
 use Rattle.engine_set.specs.declared.entry.Entry.{Entry}
 use Rattle.engine_set.specs.declared.entry.Entry.TheVariants.{Group}
 use Rattle.engine_set.specs.Entry.{entry_at, entry_index}
@@ -37,37 +38,37 @@ push_cases (x ∷ v) i zero j h = inl h
 push_cases (x ∷ v) i (suc k) j h = elim (push_cases v i k j h) [ inl a ↦ inl a | inr b ↦ inr ((let e = b.0 in omega arith), b.1) ]
 
 -- the nexthop of the path at a place
-hop_at : (ps : PathList) (k : ℕ) (p : WeightedHop) → slice_get ps k ≡ Some p → slice_get (hops ps) k ≡ Some p.nexthop
+hop_at : (ps : PathList) (k : ℕ) (p : WeightedHop) → slice_get ps k ≡ Some p → slice_get (list.hops ps) k ≡ Some p.nexthop
 hop_at ps k p h = slice_get-map (λ q. q.nexthop) ps k ∙ ap (option_map (λ q. q.nexthop)) h
 
 -- the nexthop that is picked is one of the paths'
-hop_picked : (ps : PathList) (flow : ℕ) (h : Hop) → HaveWeights ps → pick ps flow ≡ Some h → (k : ℕ) × (slice_get (hops ps) k ≡ Some h)
-hop_picked ps flow h have picked =
-    let held = slots_hold_picked ps (weights ps) have (length-map ps (λ p. p.weight)) flow in
+hop_picked : (s : Spread) (flow : ℕ) (h : Hop) → IsSpread s → pick s flow ≡ Some h → (k : ℕ) × (slice_get (hops s) k ≡ Some h)
+hop_picked s flow h is picked =
+    let held = slots_hold_picked s (weights s.paths) is (length-map s.paths (λ p. p.weight)) flow in
     (held.0, held.2 ∙ picked)
 
 module _ {W : ℕ} (names : Names W) where
   -- a nexthop that has an index is found
-  pub is_found : (ps qs : PathList) (k : ℕ) (p : WeightedHop) (h : Hop) → AreNamed names qs → ps ≡ qs → slice_get ps k ≡ Some p → h ≡ p.nexthop → ((i : ℕ) → names i ≡ Some (One h) → ⊥) → ⊥
+  pub is_found : (ps : PathList) (qs : Spread) (k : ℕ) (p : WeightedHop) (h : Hop) → AreNamed names qs → ps ≡ qs.paths → slice_get ps k ≡ Some p → h ≡ p.nexthop → ((i : ℕ) → names i ≡ Some (One h) → ⊥) → ⊥
   is_found ps qs k p h named same at is none =
-      let n = named k p.nexthop (subst (λ rs. slice_get (hops rs) k ≡ Some p.nexthop) same (hop_at ps k p at)) in
+      let n = named k p.nexthop (subst (λ rs. slice_get (list.hops rs) k ≡ Some p.nexthop) same (hop_at ps k p at)) in
       none n.0 (subst (λ (g : Hop). names n.0 ≡ Some (One g)) (sym is) n.1)
 
   -- one path more
   pub path_more : (ps : PathList) (v : List ℕ) (i n : ℕ) (p : WeightedHop) (g : Hop) → length v ≡ n → slice_get ps n ≡ Some p → g ≡ p.nexthop → names i ≡ Some (One g)
-      → ((k j : ℕ) (h : Hop) → slice_get v k ≡ Some j → slice_get (hops ps) k ≡ Some h → names j ≡ Some (One h))
-      → (k j : ℕ) (h : Hop) → slice_get (v ++ i ∷ []) k ≡ Some j → slice_get (hops ps) k ≡ Some h → names j ≡ Some (One h)
+      → ((k j : ℕ) (h : Hop) → slice_get v k ≡ Some j → slice_get (list.hops ps) k ≡ Some h → names j ≡ Some (One h))
+      → (k j : ℕ) (h : Hop) → slice_get (v ++ i ∷ []) k ≡ Some j → slice_get (list.hops ps) k ≡ Some h → names j ≡ Some (One h)
   path_more ps v i n p g len at is name before k j h hv hh = elim (push_cases v i k j hv) [
     | inl a ↦ before k j h a hh
     | inr b ↦
         let here : k ≡ n = b.0 ∙ len in
-        let same : p.nexthop ≡ h = same_Some p.nexthop h (sym (hop_at ps n p at) ∙ ap (slice_get (hops ps)) (sym here) ∙ hh) in
+        let same : p.nexthop ≡ h = same_Some p.nexthop h (sym (hop_at ps n p at) ∙ ap (slice_get (list.hops ps)) (sym here) ∙ hh) in
         subst (λ m. names m ≡ Some (One h)) b.1 (subst (λ (x : Hop). names i ≡ Some (One x)) (is ∙ same) name)
   ]
 
   -- slots of before are those of a group that stays
-  pub slots_kept : (before : Names W) (ps : PathList) (slots : List ℕ) → HaveWeights ps → AreNamed names ps → KeepIndexes before names → AreSlots before ps slots → AreSlots names ps slots
-  slots_kept before ps slots have named keep are = record {
+  pub slots_kept : (before : Names W) (ps : Spread) (slots : List ℕ) → IsSpread ps → AreNamed names ps → KeepIndexes before names → AreSlots before ps slots → AreSlots names ps slots
+  slots_kept before ps slots is named keep are = record {
     size = are.size;
     each = λ x low. go x (slice_get slots x) (pick ps x) refl (are.each x low);
   }
@@ -77,24 +78,17 @@ module _ {W : ℕ} (names : Names W) where
       go x None (Some h) at sent = absurd sent
       go x (Some i) None at sent = absurd sent
       go x (Some i) (Some h) at sent =
-          let k = hop_picked ps x h have at in
+          let k = hop_picked ps x h is at in
           let n = named k.0 h k.1 in
           subst (λ j. names j ≡ Some (One h)) (sym (keep i n.0 (One h) sent n.1)) n.1
 
 -- the slots of a group's entry
-pub slots_before : {W : ℕ} (before : Names W) (entries : List Entry) (i j : ℕ) (ps : PathList) (slots : List ℕ) → AreEntriesOf before entries → before i ≡ Some (Many ps) → entry_at entries i ≡ Some (Group j slots) → AreSlots before ps slots
+pub slots_before : {W : ℕ} (before : Names W) (entries : List Entry) (i j : ℕ) (ps : Spread) (slots : List ℕ) → AreEntriesOf before entries → before i ≡ Some (Many ps) → entry_at entries i ≡ Some (Group j slots) → AreSlots before ps slots
 slots_before before entries i j ps slots are name at =
     let e : (own : List ℕ) × (entry_at entries i ≡ Some (Group i own)) × AreSlots before ps own = subst (λ t. IsEntryOf before i t (entry_at entries i)) name (are i) in
     let same : Group i e.0 ≡ Group j slots = same_Some _ _ (sym e.1 ∙ at) in
     let own : e.0 ≡ slots = cc in
     subst (AreSlots before ps) own e.2
-
-pub weight_more : (ps : PathList) (n : ℕ) (p : WeightedHop) → slice_get ps n ≡ Some p → HasWeight p → All HasWeight (take n ps) → All HasWeight (take (n + 1) ps)
-weight_more ps n p at has all =
-    All-more HasWeight ps n p (slice_get_within ps n p at) all (subst HasWeight (sym (get_or_from_slice_get ps n p p at)) has)
-
-pub all_weights : (ps : PathList) (n : ℕ) → n ≡ length ps → All HasWeight (take n ps) → All HasWeight ps
-all_weights ps n end all = All-same HasWeight ps (take n ps) (sym (ap (λ m. take m ps) end ∙ take-length ps)) all
 
 -- one element more on both sides
 push_both : {A B : Type 0} (R : A → B → Type 0) (xs : List A) (ys : List B) (x : A) (y : B) → AllZip R xs ys → R x y → AllZip R (xs ++ x ∷ []) (ys ++ y ∷ [])

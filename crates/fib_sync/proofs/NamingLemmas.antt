@@ -10,8 +10,8 @@ use Rattle.std.proofs.lemmas.List.Elements.{All-head, All-tail, All-nil}
 use Rattle.std.proofs.lemmas.Map.Views.{IsSome-lookup_from_Contains}
 use Rattle.std.proofs.lemmas.Option.{slice_get_within, get_or_from_slice_get}
 use Rattle.prefix_width.specs.Nexthop.{Hop}
-use Rattle.nhgrp_slots.specs.PathList.{hops}
-use Rattle.nhgrp_slots.specs.Target.{target_cmp}
+use Rattle.nhgrp_slots.specs.Spread.{hops}
+use Rattle.nhgrp_slots.specs.Target.{target_cmp, target_of}
 use Rattle.nhgrp_slots.specs.declared.target.Target.{Target}
 use Rattle.nhgrp_slots.specs.declared.target.Target.TheVariants.{One, Many}
 use Rattle.nhgrp_slots.proofs.TargetOrder.{target_total, target_exact}
@@ -20,7 +20,7 @@ use Rattle.nhop_index.specs.Laws.{IsNamed, IsOneToOne}
 use Rattle.nhop_index.proofs.VersionLemmas.{found, keys-named, once}
 use Rattle.rib_store.specs.Plan.{Planned}
 use Rattle.rib_store.specs.Table.{Table}
-use Rattle.rib_store.specs.Targets.{AreClosed, HasHops, LeadToLive, live, target_of}
+use Rattle.rib_store.specs.Targets.{AreClosed, HasHops, LeadToLive, live}
 use Rattle.rib_store.proofs.RowLemmas.{tables_are_in_order}
 use Rattle.rib_store.proofs.TargetLemmas.{live_ascends, live_closed, rows_lead}
 use Rattle.rib_store.specs.Table.{table_after}
@@ -34,7 +34,7 @@ use Rattle.nhop_index.specs.Book.{Memory, Naming, Remembers}
 use Rattle.fib_sync.specs.Naming.{AreNamesAt, HasGiven, IsNext}
 use Rattle.fib_sync.specs.declared.numbering.Numbering.{Numbering}
 use Rattle.fib_edits.specs.Named.{AreNamed, Keeps, indexed, number_in}
-use Rattle.fib_edits.proofs.NameLemmas.{are_named, keeps_named, positive_named, same_target}
+use Rattle.fib_edits.proofs.NameLemmas.{are_named, keeps_named, positive_named}
 use Rattle.fib_sync.specs.Entries.{IsClosed, KeepIndexes}
 use Rattle.fib_sync.specs.Lawful.{AreIndexed}
 use Rattle.fib_sync.specs.VersionNames.{lives_to, names_at, naming_at}
@@ -84,7 +84,7 @@ module _ {w : ℕ} (names : List (Target w × ℕ)) where
       let has = All-head (λ paths. Contains (keys_of names) (target_of paths)) row.1 (values_of rows) all in
       let rest = All-tail (λ paths. Contains (keys_of names) (target_of paths)) row.1 (values_of rows) all in
       let at = listed_at one (target_of row.1) has in
-      let number : number_in names row.1 ≡ at.0 = ap (λ (t : Target w). unwrap_or (index_in target_cmp names t) 0) (sym (same_target w row.1)) ∙ ap (λ (o : Option ℕ). unwrap_or o 0) at.1 in
+      let number : number_in names row.1 ≡ at.0 = ap (λ (o : Option ℕ). unwrap_or o 0) at.1 in
       ((refl, ap (target_at names) number ∙ at.2), indexed_in one rows rest)
 
 -- ---- the indexes of a version

@@ -9,8 +9,8 @@ use Rattle.prefix_width.specs.Prefix.{Block}
 use Rattle.prefix_width.specs.Nexthop.{Hop}
 use Rattle.nhgrp_slots.specs.declared.target.Target.{Target}
 use Rattle.nhgrp_slots.specs.declared.target.Target.TheVariants.{One, Many}
-use Rattle.nhgrp_slots.specs.Slots.{pick}
-use Rattle.rib_store.specs.Targets.{target_of}
+use Rattle.nhgrp_slots.specs.Spread.{pick}
+use Rattle.nhgrp_slots.specs.Target.{target_of}
 use Rattle.rib_store.specs.Table.{Table}
 use Rattle.engine_set.specs.declared.engine.Engine.{Engine}
 use Rattle.engine_set.specs.declared.entry.Entry.{Entry}

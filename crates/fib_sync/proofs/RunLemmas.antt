@@ -61,9 +61,9 @@ begun {w} live plan rows replies now none empty zero = record {
 pub record HasRun {w : ℕ} (live : ℕ) (plan : Planned w) (n : ℕ) (c : Command w) (rows rows' : Table) (replies replies' : List Reply) (m m' : Made) (setting setting' : Setting) (now now' : Counters) (kind : Kind) (cut : Cut) : Type 0 where
   pub here : slice_get plan.commands n ≡ Some c
   pub inside : n < length plan.commands
-  pub rib : rows' ≡ (apply live rows c).table
+  pub rib : rows' ≡ (apply plan.profile live rows c).table
   pub reply : Reply
-  pub replied : reply ≡ (apply live rows c).reply
+  pub replied : reply ≡ (apply plan.profile live rows c).reply
   pub put : replies' ≡ replies ++ reply ∷ []
   pub set : setting' ≡ set_by setting c
   pub suits_setting : SettingSuits w setting'
@@ -77,11 +77,11 @@ pub record HasRun {w : ℕ} (live : ℕ) (plan : Planned w) (n : ℕ) (c : Comma
   pub made : m' ≡ kept_by cut (record { number = m.number + 1; count = n + 1; kind = kind; at_end = false }) m
 
 module _ {w : ℕ} (live : ℕ) (plan : Planned w) (n : ℕ) (c : Command w) (here : slice_get plan.commands n ≡ Some c) where
-  replies_on : (replies : List Reply) (rows : Table) (reply : Reply) → replies ≡ replies_to live plan n → rows ≡ table_after live plan n → reply ≡ (apply live rows c).reply
+  replies_on : (replies : List Reply) (rows : Table) (reply : Reply) → replies ≡ replies_to live plan n → rows ≡ table_after live plan n → reply ≡ (apply plan.profile live rows c).reply
       → replies ++ reply ∷ [] ≡ replies_to live plan (n + 1)
   unfolding replies_to
   replies_on replies rows reply rs ts e =
-      let at : reply_at live plan n ≡ Some reply = ap (option_map (λ d. (apply live (table_after live plan n) d).reply)) here ∙ ap Some (sym (e ∙ ap (λ t. (apply live t c).reply) ts)) in
+      let at : reply_at live plan n ≡ Some reply = ap (option_map (λ d. (apply plan.profile live (table_after live plan n) d).reply)) here ∙ ap Some (sym (e ∙ ap (λ t. (apply plan.profile live t c).reply) ts)) in
       rw add-one (ap (λ l. l ++ reply ∷ []) rs ∙ ap (λ o. replies_to live plan n ++ option_to_list o) (sym at))
 
 pub runs_on : {w : ℕ} (live : ℕ) (plan : Planned w) (n : ℕ) (c : Command w) (rows rows' : Table) (replies replies' : List Reply) (m m' : Made) (setting setting' : Setting) (now now' : Counters) (kind : Kind) (cut : Cut) (ended : Bool)
@@ -99,8 +99,8 @@ runs_on {w} live plan n c rows rows' replies replies' m m' setting setting' now 
     was : version_of m ≡ last
     was = h.run.made ∙ ap (λ b. last_made b live plan n) running
 
-    rib : rows' ≡ (apply live (table_after live plan n) c).table
-    rib = run.rib ∙ ap (λ (t : Table). (apply live t c).table) h.run.rib
+    rib : rows' ≡ (apply plan.profile live (table_after live plan n) c).table
+    rib = run.rib ∙ ap (λ (t : Table). (apply plan.profile live t c).table) h.run.rib
 
     set : setting' ≡ set_by (setting_after plan n) c
     set = run.set ∙ ap (λ s. set_by s c) h.set
@@ -156,7 +156,7 @@ runs_on {w} live plan n c rows rows' replies replies' m m' setting setting' now 
 -- whether the module that is chosen behind a command differs from that of the last version
 pub differs_is : {w : ℕ} (live : ℕ) (plan : Planned w) (n : ℕ) (c : Command w) (rows rows' : Table) (replies : List Reply) (m : Made) (setting setting' : Setting) (now : Counters) (kind : Kind) (ended differs : Bool)
     → ended ≡ false → IsRunner live (ran plan n rows replies m ended) setting now → slice_get plan.commands n ≡ Some c
-    → rows' ≡ (apply live rows c).table → setting' ≡ set_by setting c
+    → rows' ≡ (apply plan.profile live rows c).table → setting' ≡ set_by setting c
     → kind ≡ choose w (Some m.kind) setting' (length rows') → differs ≡ not (is_kind kind m.kind)
     → differs ≡ differs_at (course_of live plan) (n + 1) (latest (course_of live plan) n)
 differs_is {w} live plan n c rows rows' replies m setting setting' now kind ended differs running h here rib set choice is =
@@ -164,7 +164,7 @@ differs_is {w} live plan n c rows rows' replies m setting setting' now kind ende
     is ∙ ap (λ k. not (is_kind k m.kind)) choice
     ∙ ap (λ (v : Version). not (is_kind (choose w (Some v.kind) setting' (length rows')) v.kind)) was
     ∙ sym (differs_on live plan n c here (version_at live plan n) setting' rows'
-    (set ∙ ap (λ s. set_by s c) h.set) (rib ∙ ap (λ (t : Table). (apply live t c).table) h.run.rib))
+    (set ∙ ap (λ s. set_by s c) h.set) (rib ∙ ap (λ (t : Table). (apply plan.profile live t c).table) h.run.rib))
 
 -- no more versions were made than commands were run
 pub number_bound : {w : ℕ} (live : ℕ) (r : Ran w) → r.ended ≡ false → IsRun live r → r.made.number ≤ r.commands

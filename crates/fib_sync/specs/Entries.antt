@@ -7,7 +7,7 @@ use Rattle.std.specs.Ordering.{nat_cmp}
 use Rattle.prefix_width.specs.Nexthop.{Hop}
 use Rattle.nhgrp_slots.specs.declared.target.Target.{Target}
 use Rattle.nhgrp_slots.specs.declared.target.Target.TheVariants.{One, Many}
-use Rattle.nhgrp_slots.specs.PathList.{PathList, hops}
+use Rattle.nhgrp_slots.specs.Spread.{Spread, hops}
 use Rattle.engine_set.specs.declared.entry.Entry.{Entry}
 use Rattle.engine_set.specs.Entry.{entry_index}
 use Rattle.fib_sync.specs.Lawful.{Names, IsEntryOf}
@@ -18,12 +18,12 @@ module _ {W : ℕ} where
   names_in indexes i = lookup (is_at (nat_cmp i)) indexes
 
   -- the nexthop of each path has an index
-  abbrev pub AreNamed : Names W → PathList → Type 0
+  abbrev pub AreNamed : Names W → Spread → Type 0
   AreNamed names paths = (k : ℕ) (h : Hop) → slice_get (hops paths) k ≡ Some h → (i : ℕ) × (names i ≡ Some (One h))
 
   -- with each group the nexthops of its paths have indexes
   abbrev pub IsClosed : Names W → Type 0
-  IsClosed names = (i : ℕ) (paths : PathList) → names i ≡ Some (Many paths) → AreNamed names paths
+  IsClosed names = (i : ℕ) (paths : Spread) → names i ≡ Some (Many paths) → AreNamed names paths
 
   -- a target that both versions have has the same index in both
   abbrev pub KeepIndexes : Names W → Names W → Type 0

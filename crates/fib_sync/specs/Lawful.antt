@@ -5,9 +5,8 @@ use Rattle.prefix_width.specs.Prefix.{Block}
 use Rattle.prefix_width.specs.Nexthop.{Hop}
 use Rattle.nhgrp_slots.specs.declared.target.Target.{Target}
 use Rattle.nhgrp_slots.specs.declared.target.Target.TheVariants.{One, Many}
-use Rattle.nhgrp_slots.specs.PathList.{PathList}
-use Rattle.nhgrp_slots.specs.Slots.{pick, size_of, weights}
-use Rattle.rib_store.specs.Targets.{target_of}
+use Rattle.nhgrp_slots.specs.Spread.{Spread, pick}
+use Rattle.nhgrp_slots.specs.Target.{target_of}
 use Rattle.rib_store.specs.Plan.{Planned}
 use Rattle.rib_store.specs.Table.{Table}
 use Rattle.plan_cut.specs.PlanCourse.{versions_of}
@@ -34,8 +33,8 @@ module _ {W : ℕ} where
   AreIndexed names table rows = AllZip (λ row r. (r.0 ≡ row.0) × (names r.1 ≡ Some (target_of row.1))) table rows
 
   -- as many slots as the group has, each with the index of the nexthop that is picked there
-  pub record AreSlots (names : Names W) (paths : PathList) (slots : List ℕ) : Type 0 where
-    pub size : length slots ≡ size_of (weights paths)
+  pub record AreSlots (names : Names W) (paths : Spread) (slots : List ℕ) : Type 0 where
+    pub size : length slots ≡ length paths.layout
     pub each : (x : ℕ) → x < length slots → IsSent names (slice_get slots x) (pick paths x)
 
   -- the entry of an index that has this target

@@ -5,8 +5,7 @@ use Rattle.prefix_width.specs.Prefix.{Block}
 use Rattle.prefix_width.specs.Longest.{longest}
 use Rattle.module_trait.specs.Rows.{index_of}
 use Rattle.nhgrp_slots.specs.declared.target.Target.TheVariants.{One}
-use Rattle.nhgrp_slots.specs.PathList.{PathList, hops}
-use Rattle.nhgrp_slots.specs.Slots.{HaveWeights, slots_of}
+use Rattle.nhgrp_slots.specs.Spread.{Spread, IsSpread, compiled, hops}
 use Rattle.rib_store.specs.Plan.{Planned}
 use Rattle.rib_store.specs.Weights.{IsWeighted}
 use Rattle.plan_cut.specs.VersionTable.{answer_at}
@@ -29,8 +28,8 @@ LawfulImagesAnswer W =
 -- the slots that are compiled of the indexes of a group's nexthops are those of a lawful image
 abbrev pub CompiledSlotsAreLawful : ℕ → Type 0
 CompiledSlotsAreLawful W =
-    (names : Names W) (paths : PathList) (indexes : List ℕ)
-    → HaveWeights paths
-    → length indexes ≡ length paths
+    (names : Names W) (paths : Spread) (indexes : List ℕ)
+    → IsSpread paths
+    → length indexes ≡ length paths.paths
     → ((k i : ℕ) (h : Hop) → slice_get indexes k ≡ Some i → slice_get (hops paths) k ≡ Some h → names i ≡ Some (One h))
-    → AreSlots names paths (slots_of paths indexes)
+    → AreSlots names paths (compiled paths indexes)

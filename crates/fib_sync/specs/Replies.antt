@@ -6,7 +6,7 @@ use Rattle.rib_store.specs.Table.{apply, table_after}
 
 -- the reply to the command at a position of a plan
 abbrev pub reply_at : {w : ℕ} → ℕ → Planned w → ℕ → Option Reply
-reply_at most plan pos = option_map (λ c. (apply most (table_after most plan pos) c).reply) (slice_get plan.commands pos)
+reply_at most plan pos = option_map (λ c. (apply plan.profile most (table_after most plan pos) c).reply) (slice_get plan.commands pos)
 
 -- the replies to the first n commands
 unfoldable pub replies_to : {w : ℕ} → ℕ → Planned w → ℕ → List Reply

@@ -123,7 +123,8 @@ impl<const W: u32, const K: u64, const LIVE: u32> Control<W, K, LIVE> {
 
     /// The table after the commands run.
     pub fn rib(&self) -> &Rib<W, LIVE>
-        ensures rib { result.now ≡ self.now.rib }
+        ensures rib { result.now.rows ≡ self.now.rib }
+        ensures profile { result.now.profile ≡ self.now.plan.profile }
         ensures control { IsControl K LIVE self.now }
     {
         self.state.runner.rib()

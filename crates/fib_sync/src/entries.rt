@@ -1,8 +1,7 @@
 //! What each index of a version stands for.
 ghost use Rattle.std.specs.Prelude.{◌≡◌, ℕ, ◌+◌, ◌<◌, length, take, Some, None, IfOk, OnOk, slice_get};
 ghost use Rattle.prefix_width.specs.Nexthop.{Hop};
-ghost use Rattle.nhgrp_slots.specs.PathList.{hops};
-ghost use Rattle.nhgrp_slots.specs.Slots.{HaveWeights};
+ghost use Rattle.nhgrp_slots.specs.Spread.{hops};
 ghost use Rattle.nhgrp_slots.specs.declared.target.Target.TheVariants.{One};
 ghost use Rattle.engine_set.specs.Entry.{entry_index};
 ghost use Rattle.fib_sync.specs.Entries.{AreMade, AreNamed, IsClosed, KeepIndexes, names_in};
@@ -75,7 +74,8 @@ fn slots_of<X: VersionIndexes<W>, const W: u32>(
     requires name { names_in (X.indexes indexes.now) index ≡ Some (Target.Many paths.now) }
     ensures { IfOk result (AreSlots (names_in (X.indexes indexes.now)) paths.now) }
 {
-    read_weights(paths);
+    // What all paths know of their layout.
+    let _spread = paths.len();
     if indexes.is_kept(index) {
         if let Some(Entry::Group { slots, .. }) = before.at(index) {
             return slots.copy(alloc);
@@ -85,16 +85,6 @@ fn slots_of<X: VersionIndexes<W>, const W: u32>(
     compile(alloc, paths, of_paths.as_slice())
 }
 
-/// Reads the weight of each path, to tell what all paths know of their weights.
-fn read_weights<const W: u32>(paths: &Paths<W>)
-    ensures { HaveWeights paths.now }
-{
-    let paths = paths.as_slice();
-    for path in paths {
-        let _weight = path.weight();
-    }
-}
-
 /// The index of each path's nexthop.
 fn path_indexes<X: VersionIndexes<W>, const W: u32>(
     alloc: Global,
@@ -102,7 +92,7 @@ fn path_indexes<X: VersionIndexes<W>, const W: u32>(
     paths: &Paths<W>,
 ) -> Result<Vec<u16>, OutOfMemory>
     requires { AreNamed (names_in (X.indexes indexes.now)) paths.now }
-    ensures same { IfOk result (λ v. length v.items ≡ length paths.now) }
+    ensures same { IfOk result (λ v. length v.items ≡ length paths.now.paths) }
     ensures names { IfOk result (λ v. (k i : ℕ) (h : Hop) → slice_get v.items k ≡ Some i → slice_get (hops paths.now) k ≡ Some h → names_in (X.indexes indexes.now) i ≡ Some (One h)) }
 {
     let mut of_paths = Vec::new(alloc);

@@ -39,7 +39,7 @@ impl<const W: u32, const K: u64, const LIVE: u32> Numbering<W, K, LIVE> {
     /// Has the book give the indexes of the next version, whose table this is, unless it has given
     /// them. Where memory is wanting nothing changes.
     pub(crate) fn name_next(&mut self, alloc: Global, rib: &Rib<W, LIVE>) -> Result<(), OutOfMemory>
-        ensures names { (plan : Planned W) (v : ℕ) → AreNamesAt plan v self.old → rib.now ≡ table_at LIVE plan (v + 1) → AreNamesAt plan v self.new }
+        ensures names { (plan : Planned W) (v : ℕ) → AreNamesAt plan v self.old → rib.now.rows ≡ table_at LIVE plan (v + 1) → AreNamesAt plan v self.new }
         ensures named { OnOk result (is_some self.new.next ≡ true) }
         ensures err { OnErr result (self.new ≡ self.old) }
     {

@@ -44,14 +44,15 @@ pub(crate) struct Runner<const W: u32, const LIVE: u32> {
 }
 
 impl<const W: u32, const LIVE: u32> Model for Runner<W, LIVE> {
+    ghost use Rattle.std.specs.Prelude.{◌≡◌};
     ghost use Rattle.std.specs.Arc.{arc_value};
     ghost use Rattle.fib_sync.specs.Running.{Ran, IsRunner};
 
     ghost Value = { Ran W };
 
-    ghost view = { λ r. record { plan = arc_value r.plan; commands = r.commands; rib = r.rib; replies = r.replies.items; made = record { number = r.made.number; count = r.made.count; kind = r.made.kind }; at_end = r.made.at_end; ended = r.ended } };
+    ghost view = { λ r. record { plan = arc_value r.plan; commands = r.commands; rib = r.rib.rows; replies = r.replies.items; made = record { number = r.made.number; count = r.made.count; kind = r.made.kind }; at_end = r.made.at_end; ended = r.ended } };
 
-    ghost invariant = { λ r. IsRunner LIVE (record { plan = arc_value r.plan; commands = r.commands; rib = r.rib; replies = r.replies.items; made = record { number = r.made.number; count = r.made.count; kind = r.made.kind }; at_end = r.made.at_end; ended = r.ended }) r.setting r.cutter };
+    ghost invariant = { λ r. IsRunner LIVE (record { plan = arc_value r.plan; commands = r.commands; rib = r.rib.rows; replies = r.replies.items; made = record { number = r.made.number; count = r.made.count; kind = r.made.kind }; at_end = r.made.at_end; ended = r.ended }) r.setting r.cutter × (r.rib.profile ≡ (arc_value r.plan).profile) };
 }
 
 impl<const W: u32, const LIVE: u32> Runner<W, LIVE> {
@@ -64,10 +65,11 @@ impl<const W: u32, const LIVE: u32> Runner<W, LIVE> {
         ensures running { result.ended ≡ false }
         ensures run { IsRun LIVE result }
     {
+        let rib = Rib::with_profile(alloc, plan.profile());
         Runner {
             plan,
             commands: 0,
-            rib: Rib::new(alloc),
+            rib,
             replies: Vec::new(alloc),
             setting: Setting::Auto,
             cutter: Cutter::new(),
@@ -152,7 +154,8 @@ impl<const W: u32, const LIVE: u32> Runner<W, LIVE> {
 
     /// The table.
     pub(crate) fn rib(&self) -> &Rib<W, LIVE>
-        ensures { result.now ≡ self.now.rib }
+        ensures rows { result.now.rows ≡ self.now.rib }
+        ensures profile { result.now.profile ≡ self.now.plan.profile }
     {
         &self.rib
     }

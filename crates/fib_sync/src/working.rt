@@ -46,8 +46,8 @@ impl<const W: u32> Working<W> {
         indexes: &Indexes<W, K, LIVE>,
     ) -> Result<Working<W>, OutOfMemory>
         requires suits { Suits W kind }
-        requires named { AreNamed (number_in indexes.now.names) rib.now }
-        ensures { IfOk result (WorksAt kind (indexed (number_in indexes.now.names) rib.now)) }
+        requires named { AreNamed (number_in indexes.now.names) rib.now.rows }
+        ensures { IfOk result (WorksAt kind (indexed (number_in indexes.now.names) rib.now.rows)) }
     {
         let view = view_of(alloc, rib, indexes)?;
         let rows = view.rows(alloc)?;
@@ -68,11 +68,11 @@ impl<const W: u32> Working<W> {
         touched: &Touched<W>,
     ) -> Result<(), OutOfMemory>
         requires suits { Suits W kind }
-        requires named { AreNamed (number_in indexes.now.names) rib.now }
-        requires moves { (old : Naming) × (was : Table) × MayMove old (number_in indexes.now.names) was rib.now touched.now self.old }
+        requires named { AreNamed (number_in indexes.now.names) rib.now.rows }
+        requires moves { (old : Naming) × (was : Table) × MayMove old (number_in indexes.now.names) was rib.now.rows touched.now self.old }
         requires updater { U.ready updater.now }
-        ensures works { OnOk result (WorksAt kind (indexed (number_in indexes.now.names) rib.now) self.new) }
-        ensures came { OnOk result (CameBy self.old.view (indexed (number_in indexes.now.names) rib.now) self.old.engine self.new.engine) }
+        ensures works { OnOk result (WorksAt kind (indexed (number_in indexes.now.names) rib.now.rows) self.new) }
+        ensures came { OnOk result (CameBy self.old.view (indexed (number_in indexes.now.names) rib.now.rows) self.old.engine self.new.engine) }
     {
         // What each knows of its rows.
         let _ascending = (rib.len(), self.view.len(), touched.len());
@@ -134,11 +134,11 @@ pub(crate) fn moved<U: Updater<W>, const W: u32, const K: u64, const LIVE: u32>(
     touched: &Touched<W>,
 ) -> Result<Working<W>, OutOfMemory>
     requires suits { Suits W kind }
-    requires named { AreNamed (number_in indexes.now.names) rib.now }
-    requires moves { (old : WorkingOf W) → working ≡ Some old → (naming : Naming) × (was : Table) × MayMove naming (number_in indexes.now.names) was rib.now touched.now old }
+    requires named { AreNamed (number_in indexes.now.names) rib.now.rows }
+    requires moves { (old : WorkingOf W) → working ≡ Some old → (naming : Naming) × (was : Table) × MayMove naming (number_in indexes.now.names) was rib.now.rows touched.now old }
     requires updater { U.ready updater.now }
-    ensures works { IfOk result (WorksAt kind (indexed (number_in indexes.now.names) rib.now)) }
-    ensures came { IfOk result (λ new. (old : WorkingOf W) → working.entry ≡ Some old → CameBy old.view (indexed (number_in indexes.now.names) rib.now) old.engine new.engine) }
+    ensures works { IfOk result (WorksAt kind (indexed (number_in indexes.now.names) rib.now.rows)) }
+    ensures came { IfOk result (λ new. (old : WorkingOf W) → working.entry ≡ Some old → CameBy old.view (indexed (number_in indexes.now.names) rib.now.rows) old.engine new.engine) }
 {
     match working {
         Some(mut working) => {

@@ -22,7 +22,7 @@ use Rattle.nhgrp_slots.specs.Laws.{KeepsWhatStays, KeptIsLayout, LayoutIsOfPaths
 use Rattle.nhgrp_slots.specs.Layout.{filled, held, kept, kept_layout, layout_of, least_full, new_position, no_fuller, position_of, positions, taken_of, weight_at}
 use Rattle.nhgrp_slots.specs.PathList.{PathList, hops}
 use Rattle.nhgrp_slots.specs.Slots.{HaveWeights, fill, shares, shares_of, size_of, weights}
-use Rattle.nhgrp_slots.proofs.SlotLemmas.{positive, shares_are_all, slots_are_filled, slots_hold_picked}
+use Rattle.nhgrp_slots.proofs.SlotLemmas.{positive, shares_are_all, slots_are_filled, shares_hold_picked}
 
 -- the best of the first n places is the first that has the fewest slots for its weight
 pub record IsFirstLeast (slots weight : ℕ → ℕ) (n best : ℕ) : Type 0 where
@@ -263,7 +263,7 @@ layout_is_of_paths ps have =
         within = All-fill (λ i. i < length ps) (shares_of (weights ps)) (positions ps) within;
       },
       λ flow.
-          let picked = slots_hold_picked ps (positions ps) have l flow in
+          let picked = shares_hold_picked ps (positions ps) have l flow in
           let i = picked.0 in
           let below : i < length ps = picked.1 in
           let at : slice_get (positions ps) i ≡ Some i = slice_get-get_or (positions ps) i 0 (omega arith) ∙ ap (λ (m : ℕ). Some m) (position_at ps i below) in

@@ -3,4 +3,5 @@ pub mod LayoutLemmas
 pub mod PathLemmas
 pub mod PathOrder
 pub mod SlotLemmas
+pub mod SpreadLemmas
 pub mod TargetOrder

@@ -1,5 +1,5 @@
 -- Lists of paths through `put_path` and a filter.
-use Rattle.std.proofs.Common.{◌≡◌, ◌+◌, ◌<◌, ◌≤◌, List, [], ◌∷◌, length, filter, Bool, true, false, cond, ◌||◌, not, refl, sym, ◌∙◌, ap, subst, arith}
+use Rattle.std.proofs.Common.{◌≡◌, ℕ, ◌++◌, ◌+◌, ◌<◌, ◌≤◌, List, [], ◌∷◌, length, filter, Bool, true, false, cond, ◌||◌, not, refl, sym, ◌∙◌, ap, subst, arith}
 use Rattle.std.specs.declared.cmp.Ordering.{Ordering}
 use Rattle.std.specs.declared.cmp.Ordering.TheVariants.{Less, Equal, Greater}
 use Rattle.std.specs.List.{insert, position_or_len, list_any, position, prefix_len, AllByRecursion}
@@ -37,6 +37,12 @@ insert-put_path (q ∷ qs) p =
       | true ↦ grind (arith, common_steps)
       | false ↦ rw (← ih) (grind (arith, common_steps))
     ]
+
+-- what comes of a copy of the paths into which one is put there
+pub put_in : (ps none taken copied all : List WeightedHop) (p : WeightedHop) (n : ℕ) → none ≡ [] → taken ≡ ps → copied ≡ none ++ taken → n ≡ position_or_len (λ q. is_lt (hop_cmp p.nexthop q.nexthop)) ps → all ≡ insert copied n p → all ≡ put_path ps p
+put_in ps none taken copied all p n empty same copy place put =
+    let whole : copied ≡ ps = copy ∙ ap (λ (qs : List WeightedHop). qs ++ taken) empty ∙ same in
+    put ∙ ap (λ (qs : List WeightedHop). insert qs n p) whole ∙ ap (λ (m : ℕ). insert ps m p) place ∙ insert-put_path ps p
 
 -- what holds of each nexthop and of the new one holds of each after
 all-put_path : (P : Hop → Type 0) (ps : List WeightedHop) (p : WeightedHop) → P p.nexthop → AllByRecursion P (hops ps) → AllByRecursion P (hops (put_path ps p))

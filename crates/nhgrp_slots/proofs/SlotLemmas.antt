@@ -1,5 +1,5 @@
 -- Slots: the shares are all of them, each is filled, and a flow's slot stands for its path.
-use Rattle.std.proofs.Common.{◌≡◌, ℕ, suc, ◌+◌, ◌-◌, ◌*◌, ◌/◌, ◌%◌, ◌<◌, ◌≤◌, Bool, true, false, cond, nat_lt, List, [], ◌∷◌, ◌++◌, Some, refl, sym, ◌∙◌, ap, subst, arith, length, sum, take, drop, get_or, replicate, map, length-append, zero-add}
+use Rattle.std.proofs.Common.{◌≡◌, ℕ, suc, ◌+◌, ◌-◌, ◌*◌, ◌/◌, ◌%◌, ◌<◌, ◌≤◌, Bool, true, false, cond, nat_lt, List, [], ◌∷◌, ◌++◌, Some, refl, sym, ◌∙◌, ap, subst, arith, length, sum, take, drop, get_or, replicate, map, length-append}
 use Rattle.std.specs.Prelude.{All, slice_get}
 use Rattle.std.proofs.Math.Nat.{mul-div_cancel, mul-sub, mul-div_cancel_left, mul-le-mul_left, div-le_of_le-mul, div-mul_cancel, mod-lt}
 use Rattle.std.proofs.lemmas.Bool.{ltb-true, ltb-false}
@@ -12,8 +12,8 @@ use Rattle.std.proofs.lemmas.Option.{slice_get-get_or}
 use Prim.Native.Nat.{◌∣◌}
 use Rattle.prefix_width.specs.Path.{WeightedHop, IsWeight}
 use Rattle.nhgrp_slots.specs.PathList.{hops}
-use Rattle.nhgrp_slots.specs.Slots.{HaveWeights, weights, gcd_of, size_of, shares, shares_of, fill, slots_of}
-use Rattle.nhgrp_slots.specs.Laws.{SharesAreAll, SmallSharesAreExact, SlotsHoldPicked}
+use Rattle.nhgrp_slots.specs.Slots.{HaveWeights, weights, gcd_of, size_of, shares, shares_of, fill, slots_of, pick_by_weights}
+use Rattle.nhgrp_slots.specs.Laws.{SharesAreAll, SmallSharesAreExact}
 use Rattle.nhgrp_slots.proofs.DivisorLemmas.{gcd_of_divides, gcd_of-le_sum, dvd-sum}
 
 -- the sum of a list from its first number
@@ -164,8 +164,9 @@ small_shares_are_exact ps have small =
     let whole : sum ws ≡ size_of ws * g = sym (div-mul_cancel g (dvd-sum g ws divides.1)) ∙ ap (λ n. n * g) (sym size) in
     shares-exact g (size_of ws) (sum ws) ws divides.0 whole pos (All-weaker (λ w. g ∣ w) (λ w. w / g * g ≡ w) (λ w d. div-mul_cancel g d) ws divides.1) refl
 
-pub slots_hold_picked : SlotsHoldPicked
-slots_hold_picked ps indexes have same flow =
+-- a flow's slot, as the shares have it, holds the mark of the path that the weights pick for the flow
+pub shares_hold_picked : (ps : List WeightedHop) (marks : List ℕ) → HaveWeights ps → length marks ≡ length ps → (flow : ℕ) → (i : ℕ) × (i < length ps) × (slice_get (hops ps) i ≡ pick_by_weights ps flow) × (slice_get marks i ≡ slice_get (slots_of ps marks) (flow % length (slots_of ps marks)))
+shares_hold_picked ps indexes have same flow =
     let ns : List ℕ = shares_of (weights ps) in
     let all = shares_are_all ps have in
     let slot : ℕ = flow % size_of (weights ps) in
@@ -180,28 +181,3 @@ slots_hold_picked ps indexes have same flow =
       sym (get-fill ns (hops ps) slot (k ∙ sym l ∙ sym n) within),
       sym (get-fill ns indexes slot (same ∙ sym l ∙ sym n) within) ∙ ap (λ m. slice_get (slots_of ps indexes) (flow % m)) (sym filled),
     )
-
--- a slot of several marks alone, and one past them
-slice_get-append : {X : Type 0} (xs ys : List X) (i : ℕ) → slice_get (xs ++ ys) (length xs + i) ≡ slice_get ys i
-slice_get-append [] ys i = ap (slice_get ys) (zero-add i)
-slice_get-append (x ∷ xs) ys i =
-    let e : length (x ∷ xs) + i ≡ suc (length xs + i) = omega arith in
-    ap (slice_get (x ∷ xs ++ ys)) e ∙ slice_get-append xs ys i
-
-pub slot_within : {X : Type 0} (n slot : ℕ) (x : X) (ys : List X) → slot < n → slice_get (replicate n x ++ ys) slot ≡ Some x
-slot_within {X} n slot x ys h =
-    let l = length-replicate n x in
-    let k = length-append (replicate n x) ys in
-    let a = get_or_append_left (replicate n x) ys x slot (omega arith) in
-    let r = get_or-replicate n slot x x h in
-    slice_get-get_or (replicate n x ++ ys) slot x (omega arith) ∙ ap (λ (y : X). Some y) (a ∙ r)
-
-pub slot_past : {X : Type 0} (n slot : ℕ) (x : X) (ys : List X) → n ≤ slot → slice_get (replicate n x ++ ys) slot ≡ slice_get ys (slot - n)
-slot_past n slot x ys h =
-    let l = length-replicate n x in
-    let e : length (replicate n x) + (slot - n) ≡ slot = omega arith in
-    ap (slice_get (replicate n x ++ ys)) (sym e) ∙ slice_get-append (replicate n x) ys (slot - n)
-
--- the slots from a path on: its share, and those of the paths behind it
-pub slots_from : (slots total : ℕ) (ps : List WeightedHop) (i : ℕ) (p : WeightedHop) → i < length ps → p ≡ get_or ps i p → fill (shares slots total (weights (drop i ps))) (hops (drop i ps)) ≡ replicate (p.weight * slots / total) p.nexthop ++ fill (shares (slots - p.weight * slots / total) (total - p.weight) (weights (drop (i + 1) ps))) (hops (drop (i + 1) ps))
-slots_from slots total ps i p h e = ap (λ qs. fill (shares slots total (weights qs)) (hops qs)) (drop_more ps i p h ∙ ap (λ (q : WeightedHop). q ∷ drop (i + 1) ps) (sym e))

@@ -4,4 +4,5 @@ pub mod Order
 pub mod PathList
 pub mod PathStore
 pub mod Slots
+pub mod Spread
 pub mod Target

@@ -38,10 +38,6 @@ pub record IsPathList (ps : PathList) : Type 0 where
   pub ascend : IsStrictlySortedBy hop_cmp (hops ps)
   pub alone : 2 ≤ length ps → list_any (λ p. drops p.nexthop.kind) ps ≡ false
 
--- a group: a list of two paths or more
-abbrev pub IsGroup : PathList → Type 0
-IsGroup ps = 2 ≤ length ps
-
 -- the paths with one more, before the first whose nexthop is greater
 abbrev pub put_path : PathList → WeightedHop → PathList
 put_path [] p = p ∷ []

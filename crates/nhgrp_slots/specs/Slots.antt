@@ -1,5 +1,5 @@
 -- Slots: the weights of paths compiled to positions, so that a flow's path is one remainder and one read.
-use Rattle.std.specs.Prelude.{◌≡◌, ◌==◌, ◌<◌, ◌≤◌, ℕ, suc, zero, ◌-◌, ◌*◌, ◌/◌, ◌%◌, min, Bool, List, [], ◌∷◌, ◌++◌, length, All, sum, replicate, map, Option, slice_get, if◌then◌else◌}
+use Rattle.std.specs.Prelude.{◌==◌, ◌≤◌, ℕ, suc, zero, ◌-◌, ◌*◌, ◌/◌, ◌%◌, min, Bool, List, [], ◌∷◌, ◌++◌, length, All, sum, replicate, map, Option, slice_get, if◌then◌else◌}
 use Rattle.std.specs.List.{list_all}
 use Rattle.prefix_width.specs.Nexthop.{Hop}
 use Rattle.prefix_width.specs.Path.{IsWeight}
@@ -50,12 +50,6 @@ fill ns xs = []
 abbrev pub slots_of : {X : Type 0} → PathList → List X → List X
 slots_of ps marks = fill (shares_of (weights ps)) marks
 
--- the nexthop of a flow
-abbrev pub pick : PathList → ℕ → Option Hop
-pick ps flow = slice_get (slots_of ps (hops ps)) (flow % size_of (weights ps))
-
--- slots in which the slot of each flow holds the index of a path, and its nexthop is the flow's
-abbrev pub HoldPicked : PathList → List ℕ → List ℕ → Type 0
-HoldPicked ps indexes slots =
-    (flow : ℕ) → (i : ℕ) × (i < length ps) × (slice_get (hops ps) i ≡ pick ps flow)
-    × (slice_get indexes i ≡ slice_get slots (flow % length slots))
+-- the nexthop of a flow by the weights alone: the path whose share of the slots holds the flow's slot
+abbrev pub pick_by_weights : PathList → ℕ → Option Hop
+pick_by_weights ps flow = slice_get (slots_of ps (hops ps)) (flow % size_of (weights ps))

@@ -1,4 +1,4 @@
-ghost use Rattle.nhgrp_slots.specs.Laws.{KeepsWhatStays, KeptIsLayout, LayoutIsOfPaths, SharesAreAll, SlotsAreFilled, SlotsHoldPicked, SmallSharesAreExact};
+ghost use Rattle.nhgrp_slots.specs.Laws.{KeepsWhatStays, KeptIsLayout, LayoutIsOfPaths, LeftAreSpreads, SharesAreAll, SlotsAreFilled, SlotsHoldPicked, SmallSharesAreExact, SpreadsAreOfPaths};
 
 /// Law: there are 1 to 64 slots, and the shares are all of them.
 pub fn law_shares_are_all()
@@ -30,7 +30,18 @@ pub fn law_kept_is_layout()
     ensures { KeptIsLayout }
 {}
 
-/// Law: the layout that weights give is one of the paths, and picks what their slots pick.
+/// Law: the layout that weights give is one of the paths, and picks for each flow the path whose
+/// share holds the flow's slot.
 pub fn law_layout_picks_as_slots()
     ensures { LayoutIsOfPaths }
+{}
+
+/// Law: paths with the layout that their weights give are the paths of a route.
+pub fn law_spreads_are_of_paths()
+    ensures { SpreadsAreOfPaths }
+{}
+
+/// Law: what is left of the paths of a route are such paths, whether layouts are kept or not.
+pub fn law_left_are_spreads()
+    ensures { LeftAreSpreads }
 {}

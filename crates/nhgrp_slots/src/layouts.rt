@@ -1,28 +1,34 @@
 //! Layouts of a group: which path each slot holds, and what is kept of it when paths leave.
-ghost use Rattle.std.specs.Prelude.{◌≡◌, ◌≤◌, ◌<◌, ◌*◌, ◌++◌, ◌↔◌, IsTrue, All, IfOk, IfSome, OnOk, length, replicate, slice_index_or, ℕ};
+ghost use Rattle.std.specs.Prelude.{◌≡◌, ◌≤◌, ◌<◌, ◌*◌, ◌++◌, ◌↔◌, IsTrue, All, IfOk, IfSome, OnOk, length, replicate, slice_index_or, sum, ℕ};
 ghost use Rattle.std.specs.Ordering.{is_eq};
 ghost use Rattle.prefix_width.specs.Order.{hop_cmp};
 ghost use Rattle.prefix_width.specs.Path.{IsWeight};
 ghost use Rattle.nhgrp_slots.specs.Layout.{IsLayout, held, kept, kept_layout, layout_of, least_full, new_position, position_of, taken_of};
 ghost use Rattle.nhgrp_slots.specs.PathList.{IsPathList};
+ghost use Rattle.nhgrp_slots.specs.Slots.{HaveWeights, weights};
 
 use crate::OutOfMemory;
 use crate::divisor::common_divisor;
-use crate::paths::Paths;
-use crate::slots::{SLOTS_MAX, sum_of};
 use prefix_width::{Nexthop, Path};
 use std::alloc::Global;
 
-/// The layout that the weights of the paths give: for each slot the position of its path, counted
-/// from 0. There are 1 to 64 slots, as [`compile`](crate::compile) has them.
-pub fn layout<const W: u32>(alloc: Global, paths: &Paths<W>) -> Result<Vec<u8>, OutOfMemory>
+/// The most slots of a group.
+const SLOTS_MAX: u32 = 64;
+
+/// The layout that the weights of the paths give, and what all paths know of their weights. The
+/// number of slots is the sum of the weights by their greatest common divisor, at most 64. Each
+/// path in turn gets its weight's part of the slots that are left, rounded down.
+pub(crate) fn layout_of<const W: u32>(
+    alloc: Global,
+    paths: &[Path<W>],
+) -> Result<Vec<u8>, OutOfMemory>
+    requires { IsPathList paths.now }
     ensures value { IfOk result (λ layout. layout.items ≡ layout_of paths.now) }
-    ensures layout { IfOk result (λ layout. IsLayout paths.now layout.items) }
+    ensures weights { HaveWeights paths.now }
 {
-    let paths = paths.as_slice();
     let mut rem_sum = sum_of(paths);
     let mut rem_slots = (rem_sum / common_divisor(paths)).min(SLOTS_MAX);
-    let mut slots = Vec::new(alloc);
+    let mut slots = Vec::with_capacity(alloc, rem_slots as usize)?;
     for i in 0..paths.len() {
         let weight = paths[i].weight();
         let share = weight * rem_slots / rem_sum;
@@ -46,12 +52,13 @@ pub fn keep<const W: u32>(
     requires new { IsPathList new.now }
     ensures value { IfOk result (λ kept. kept.items ≡ kept_layout old.now layout.now new.now) }
     ensures layout { IfOk result (λ kept. IsLayout new.now kept.items) }
+    ensures weights { HaveWeights new.now }
 {
     // the weights of the new paths are in their range
     let _sum = sum_of(new);
     let mut counts = [0u8; 64];
     count_kept(&mut counts, old, layout, new);
-    let mut slots = Vec::new(alloc);
+    let mut slots = Vec::with_capacity(alloc, layout.len())?;
     for position in layout {
         if let Some(stays) = new_position(old, *position, new) {
             slots.push(stays as u8)?;
@@ -131,4 +138,17 @@ fn push_times(slots: &mut Vec<u8>, position: u8, times: u32) -> Result<(), OutOf
         slots.push(position)?;
     }
     Ok(())
+}
+
+/// The sum of the weights, and what each path knows of its weight.
+fn sum_of<const W: u32>(paths: &[Path<W>]) -> u32
+    requires { length paths.now ≤ 64 }
+    ensures value { result ≡ sum (weights paths.now) }
+    ensures weights { All (λ p. IsWeight p.nexthop.kind p.weight) paths.now }
+{
+    let mut sum = 0;
+    for path in paths {
+        sum += path.weight();
+    }
+    sum
 }

@@ -14,9 +14,10 @@ mod target;
 pub use groups::GroupTable;
 pub use laws::{
     law_keep_moves_no_slot_that_stays, law_kept_is_layout, law_layout_picks_as_slots,
-    law_shares_are_all, law_slots_are_filled, law_slots_hold_picked, law_small_shares_are_exact,
+    law_left_are_spreads, law_shares_are_all, law_slots_are_filled, law_slots_hold_picked,
+    law_small_shares_are_exact, law_spreads_are_of_paths,
 };
-pub use layouts::{keep, layout};
+pub use layouts::keep;
 pub use paths::Paths;
 pub use slots::{Slots, compile, pick};
 pub use std::alloc::AllocError as OutOfMemory;

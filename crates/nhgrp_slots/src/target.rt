@@ -4,12 +4,12 @@ use prefix_width::Nexthop;
 use std::alloc::Global;
 use std::cmp::Ordering;
 
-/// What a route leads to. A nexthop comes before a list of paths in the order.
+/// What a route leads to. A nexthop comes before groups in the order.
 #[derive(Debug, Drop, PartialEq, Eq, PartialOrd, Ord)]
 pub enum Target<const W: u32> {
     /// One nexthop.
     One(Nexthop<W>),
-    /// Two paths or more.
+    /// Two paths or more, with their layout.
     Many(Paths<W>),
 }
 
@@ -27,7 +27,7 @@ impl<const W: u32> Target<W> {
         }
     }
 
-    /// What `cmp` answers: nexthops come first in their order, then lists of paths in theirs.
+    /// What `cmp` answers: nexthops come first in their order, then groups in theirs.
     pub fn order(&self, other: &Target<W>) -> Ordering
         ensures { result ≡ target_cmp self.now other.now }
     {

@@ -107,7 +107,7 @@ fn paths_are_kept_in_the_order_of_their_nexthops(rt: HostRuntime) -> Result<(), 
     assert_eq!(rt; both.copy(alloc)?, both);
     assert!(rt; both.clashes(&low) && both.has_via());
     assert!(rt; both.goes_by(&gateway) && both.has_nexthop(low.nexthop()));
-    assert!(rt; both.without(alloc, &gateway)? == Some(paths));
+    assert!(rt; both.without(alloc, &gateway, false)? == Some(paths));
     Ok(())
 }
 

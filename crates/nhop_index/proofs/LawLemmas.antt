@@ -68,7 +68,7 @@ live_some {w} (e ∷ es) t (inr h) = go (target_cmp t e.0) (live_some es t h)
     go Greater k = k
 
 pub nexthops_are_named : (w : ℕ) → NexthopsAreNamed w
-nexthops_are_named w names paths closed has = go (index_in target_cmp names (Many paths)) refl has
+nexthops_are_named w names s closed has = go (index_in target_cmp names (Many s)) refl has
   where
     each : (ps : PathList) → All (λ p. IsLive {w = w} (One p.nexthop) (keys_of names)) ps → All (λ p. IsSome (index_in (target_cmp {w = w}) names (One p.nexthop))) ps
     each [] all = All-nil (λ p. IsSome (index_in (target_cmp {w = w}) names (One p.nexthop)))
@@ -77,6 +77,6 @@ nexthops_are_named w names paths closed has = go (index_in target_cmp names (Man
         (live_some names (One p.nexthop) (All-head (λ p. IsLive {w = w} (One p.nexthop) (keys_of names)) p ps all))
         (each ps (All-tail (λ p. IsLive {w = w} (One p.nexthop) (keys_of names)) p ps all))
 
-    go : (o : Option ℕ) → index_in (target_cmp {w = w}) names (Many paths) ≡ o → IsSome o → All (λ p. IsSome (index_in (target_cmp {w = w}) names (One p.nexthop))) paths
+    go : (o : Option ℕ) → index_in (target_cmp {w = w}) names (Many s) ≡ o → IsSome o → All (λ p. IsSome (index_in (target_cmp {w = w}) names (One p.nexthop))) s.paths
     go None e h = absurd (false≢true h)
-    go (Some i) e h = each paths (closed paths (named_live names (Many paths) i (found (target_cmp {w = w}) target_exact names (Many paths) i e)))
+    go (Some i) e h = each s.paths (closed s (named_live names (Many s) i (found (target_cmp {w = w}) target_exact names (Many s) i e)))

@@ -3,7 +3,7 @@ use Rattle.std.specs.Prelude.{◌≡◌, ℕ, ◌+◌, ◌<◌, ◌≤◌, true,
 use Rattle.std.specs.List.{slice_get}
 use Rattle.std.specs.Map.{keys_of}
 use Rattle.prefix_width.specs.Limits.{last_index}
-use Rattle.nhgrp_slots.specs.PathList.{PathList}
+use Rattle.nhgrp_slots.specs.Spread.{Spread}
 use Rattle.nhgrp_slots.specs.Target.{target_cmp}
 use Rattle.nhgrp_slots.specs.declared.target.Target.{Target}
 use Rattle.nhgrp_slots.specs.declared.target.Target.TheVariants.{One, Many}
@@ -47,10 +47,10 @@ IsLive t (s ∷ ts) = (s ≡ t) ⊎ IsLive t ts
 -- the nexthops of each group are among the targets
 abbrev pub IsClosed : {w : _} → List (Target w) → Type 0
 IsClosed {w} targets =
-    (paths : PathList) → IsLive {w = w} (Many paths) targets → All (λ p. IsLive {w = w} (One p.nexthop) targets) paths
+    (s : Spread) → IsLive {w = w} (Many s) targets → All (λ p. IsLive {w = w} (One p.nexthop) targets) s.paths
 
 -- where the nexthops of each group are live, each nexthop of a group that has an index has one
 abbrev pub NexthopsAreNamed : ℕ → Type 0
 NexthopsAreNamed w =
-    (names : List (Target w × ℕ)) (paths : PathList) → IsClosed (keys_of names) → IsSome (index_in target_cmp names (Many paths))
-    → All (λ p. IsSome (index_in target_cmp names (One p.nexthop))) paths
+    (names : List (Target w × ℕ)) (s : Spread) → IsClosed (keys_of names) → IsSome (index_in target_cmp names (Many s))
+    → All (λ p. IsSome (index_in target_cmp names (One p.nexthop))) s.paths

@@ -28,7 +28,7 @@ use Rattle.plan_cut.proofs.ListingLemmas.{latest_number}
 -- the command behind the first m of a plan
 module _ {w : _} (live : ℕ) (plan : Planned w) (m : ℕ) (command : Command w) (here : slice_get plan.commands m ≡ Some command) where
   -- the table behind it
-  pub table_on : table_after live plan (m + 1) ≡ (apply live (table_after live plan m) command).table
+  pub table_on : table_after live plan (m + 1) ≡ (apply plan.profile live (table_after live plan m) command).table
   table_on = table_after_more live plan m command here
 
   -- the setting behind it
@@ -41,26 +41,26 @@ module _ {w : _} (live : ℕ) (plan : Planned w) (m : ℕ) (command : Command w)
   unfolding beat_at
   beat_on = rw add-one (ap beat_in here)
 
-  pub changed_on : (course_of live plan).changed (m + 1) ≡ is_accepted (apply live (table_after live plan m) command).reply
+  pub changed_on : (course_of live plan).changed (m + 1) ≡ is_accepted (apply plan.profile live (table_after live plan m) command).reply
   unfolding changed_at
-  changed_on = rw add-one (ap (changed_in live (table_after live plan m)) here)
+  changed_on = rw add-one (ap (changed_in plan.profile live (table_after live plan m)) here)
 
   -- what a step of the cutter asks to know of it, by its reply
-  pub is_command_on : (reply : Reply) → reply ≡ (apply live (table_after live plan m) command).reply → IsCommand (course_of live plan) (m + 1) (is_accepted reply) (beat_of command)
+  pub is_command_on : (reply : Reply) → reply ≡ (apply plan.profile live (table_after live plan m) command).reply → IsCommand (course_of live plan) (m + 1) (is_accepted reply) (beat_of command)
   is_command_on reply e = record {
     same_change = changed_on ∙ ap is_accepted (sym e);
     same_beat = beat_on;
   }
 
   -- the choice behind it, by the setting and the table that there are then
-  pub choice_on : (kind : Kind) (setting : Setting) (rows : Table) → setting ≡ set_by (setting_after plan m) command → rows ≡ (apply live (table_after live plan m) command).table →
+  pub choice_on : (kind : Kind) (setting : Setting) (rows : Table) → setting ≡ set_by (setting_after plan m) command → rows ≡ (apply plan.profile live (table_after live plan m) command).table →
       (course_of live plan).choice (m + 1) kind ≡ choose w (Some kind) setting (length rows)
   choice_on kind setting rows s r =
       ap (λ t. choose w (Some kind) t (length (table_after live plan (m + 1)))) (setting_on ∙ sym s)
       ∙ ap (λ t. choose w (Some kind) setting (length t)) (table_on ∙ sym r)
 
   -- whether it differs from the current module
-  pub differs_on : (last : Version) (setting : Setting) (rows : Table) → setting ≡ set_by (setting_after plan m) command → rows ≡ (apply live (table_after live plan m) command).table →
+  pub differs_on : (last : Version) (setting : Setting) (rows : Table) → setting ≡ set_by (setting_after plan m) command → rows ≡ (apply plan.profile live (table_after live plan m) command).table →
       differs_at (course_of live plan) (m + 1) last ≡ not (is_kind (choose w (Some last.kind) setting (length rows)) last.kind)
   differs_on last setting rows s r = ap (λ k. not (is_kind k last.kind)) (choice_on last.kind setting rows s r)
 

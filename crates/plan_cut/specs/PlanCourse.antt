@@ -30,10 +30,10 @@ abbrev pub beat_in : {w : _} → Option (Command w) → Beat
 beat_in None = Edits
 beat_in (Some command) = beat_of command
 
--- whether the command, if there is one, is an accepted change of the table
-abbrev pub changed_in : {w : _} → ℕ → Table → Option (Command w) → Bool
-changed_in live rows None = false
-changed_in live rows (Some command) = is_accepted (apply live rows command).reply
+-- whether the command, if there is one, is by the profile an accepted change of the table
+abbrev pub changed_in : {w : _} → ℕ → ℕ → Table → Option (Command w) → Bool
+changed_in profile live rows None = false
+changed_in profile live rows (Some command) = is_accepted (apply profile live rows command).reply
 
 -- the setting behind a command
 abbrev pub set_by : {w : _} → Setting → Command w → Setting
@@ -52,7 +52,7 @@ beat_at plan (suc m) = beat_in (slice_get plan.commands m)
 -- whether command m is an accepted change of the table after those before it
 unfoldable pub changed_at : {w : _} → ℕ → Planned w → ℕ → Bool
 changed_at live plan zero = false
-changed_at live plan (suc m) = changed_in live (table_after live plan m) (slice_get plan.commands m)
+changed_at live plan (suc m) = changed_in plan.profile live (table_after live plan m) (slice_get plan.commands m)
 
 -- the module that is chosen for the table after the first m commands, by the setting after them, where this is the current one
 abbrev pub choice_at : {w : _} → ℕ → Planned w → ℕ → Kind → Kind

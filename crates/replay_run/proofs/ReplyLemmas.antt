@@ -1,5 +1,5 @@
 -- The replies to the first commands of a plan, one by one.
-use Rattle.std.proofs.Common.{◌≡◌, ◌∙◌, inl, inr, ℕ, zero, suc, ◌<◌, ◌≤◌, cond, nat_lt, nat_le, List, [], ◌∷◌, ◌++◌, Option, Some, None, length, refl, sym, ap, subst, arith, length-append}
+use Rattle.std.proofs.Common.{◌≡◌, ◌∙◌, inl, inr, ℕ, Bool, zero, suc, ◌<◌, ◌≤◌, cond, nat_lt, nat_le, List, [], ◌∷◌, ◌++◌, Option, Some, None, length, refl, sym, ap, subst, arith, length-append}
 use Rattle.std.specs.List.{list_any, slice_get}
 use Rattle.std.specs.Prelude.{slice_index_or}
 use Rattle.std.specs.Option.{option_to_list, option_map}
@@ -7,8 +7,10 @@ use Rattle.std.proofs.lemmas.Bool.{cases_lt, cond_both}
 use Rattle.std.proofs.lemmas.Option.{get_or_from_slice_get, same_Some, slice_get_cases}
 use Rattle.prefix_width.specs.Prefix.{Block}
 use Rattle.prefix_width.specs.Path.{WeightedHop}
-use Rattle.nhgrp_slots.specs.PathList.{PathList, clashes, goes_by, left_by, paths_left, put_path}
+use Rattle.nhgrp_slots.specs.PathList.{clashes, goes_by, put_path}
+use Rattle.nhgrp_slots.specs.Spread.{Spread, spread, without}
 use Rattle.rib_store.specs.Plan.{Planned}
+use Rattle.rib_store.specs.Profile.{keeps}
 use Rattle.rib_store.specs.Limits.{routes_max}
 use Rattle.rib_store.specs.declared.command.Command.{Command}
 use Rattle.rib_store.specs.declared.command.Command.TheVariants.{Add, Change, Delete, Flush, Tick, Sync, Algo}
@@ -25,7 +27,7 @@ use Rattle.replay_run.specs.Family.{FlushesAtMost}
 -- a command that is there has a reply
 reply_there : {w : ℕ} (most : ℕ) (plan : Planned w) (n : ℕ) → n < length plan.commands → (reply : Reply) × (reply_at most plan n ≡ Some reply)
 reply_there most plan n within = elim (slice_get_cases plan.commands n).1 [
-  | inl p ↦ ((apply most (table_after most plan n) p.0).reply, ap (option_map (λ c. (apply most (table_after most plan n) c).reply)) p.2)
+  | inl p ↦ ((apply plan.profile most (table_after most plan n) p.0).reply, ap (option_map (λ c. (apply plan.profile most (table_after most plan n) c).reply)) p.2)
   | inr q ↦ absurd (omega arith)
 ]
 
@@ -64,7 +66,7 @@ reply_found most plan n m rs d are below within =
 -- ---- how many routes a flush takes out
 
 -- what holds of a reply and of every refusal holds of the reply behind the limits
-settled_reply : (P : Reply → Type 0) → ((why : Refusal) → P (Refused why)) → (most : ℕ) (rows : Table) (b : Block) (ps : PathList) (reply : Reply) → P reply → P (settled most rows b ps reply).reply
+settled_reply : (P : Reply → Type 0) → ((why : Refusal) → P (Refused why)) → (most : ℕ) (rows : Table) (b : Block) (ps : Spread) (reply : Reply) → P reply → P (settled most rows b ps reply).reply
 settled_reply P refusal most rows b ps reply h =
     cond_both (nat_lt routes_max (length (put_row rows b ps))) (refused rows TableFull) (cond (nat_lt most (live_count (put_row rows b ps))) (refused rows TargetsFull) (placed rows b ps reply))
     (λ o. P o.reply)
@@ -72,8 +74,8 @@ settled_reply P refusal most rows b ps reply h =
     (λ _. cond_both (nat_lt most (live_count (put_row rows b ps))) (refused rows TargetsFull) (placed rows b ps reply) (λ o. P o.reply) (λ _. refusal TargetsFull) (λ _. h))
 
 -- a table of so many routes flushes no more
-pub flushes_few : {w : ℕ} (most : ℕ) (rows : Table) (c : Command w) → length rows ≤ routes_max → FlushesAtMost routes_max (apply most rows c).reply
-flushes_few {w} most rows c few = by_command c
+pub flushes_few : {w : ℕ} (profile most : ℕ) (rows : Table) (c : Command w) → length rows ≤ routes_max → FlushesAtMost routes_max (apply profile most rows c).reply
+flushes_few {w} profile most rows c few = by_command c
   where
     P : Reply → Type 0
     P = FlushesAtMost routes_max
@@ -81,33 +83,33 @@ flushes_few {w} most rows c few = by_command c
     refusal : (why : Refusal) → P (Refused why)
     refusal why = tt
 
-    settles : (b : Block) (ps : PathList) (reply : Reply) → P reply → P (settled most rows b ps reply).reply
+    settles : (b : Block) (ps : Spread) (reply : Reply) → P reply → P (settled most rows b ps reply).reply
     settles b ps reply h = settled_reply P refusal most rows b ps reply h
 
-    adds : (b : Block) (p : WeightedHop) (o : Option PathList) → P (added (settled most) rows b p o).reply
-    adds b p None = settles b (p ∷ []) Added tt
-    adds b p (Some paths) =
-        cond_both (clashes paths p) (refused rows Exists) (cond (nat_le 64 (length paths)) (refused rows PathsFull) (settled most rows b (put_path paths p) Joined)) (λ o. P o.reply) (λ _. tt)
-        (λ _. cond_both (nat_le 64 (length paths)) (refused rows PathsFull) (settled most rows b (put_path paths p) Joined) (λ o. P o.reply) (λ _. tt) (λ _. settles b (put_path paths p) Joined tt))
+    adds : (b : Block) (p : WeightedHop) (o : Option Spread) → P (added (settled most) rows b p o).reply
+    adds b p None = settles b (spread (p ∷ [])) Added tt
+    adds b p (Some s) =
+        cond_both (clashes s.paths p) (refused rows Exists) (cond (nat_le 64 (length s.paths)) (refused rows PathsFull) (settled most rows b (spread (put_path s.paths p)) Joined)) (λ o. P o.reply) (λ _. tt)
+        (λ _. cond_both (nat_le 64 (length s.paths)) (refused rows PathsFull) (settled most rows b (spread (put_path s.paths p)) Joined) (λ o. P o.reply) (λ _. tt) (λ _. settles b (spread (put_path s.paths p)) Joined tt))
 
-    changes : (b : Block) (p : WeightedHop) (o : Option PathList) → P (changed (settled most) rows b p o).reply
+    changes : (b : Block) (p : WeightedHop) (o : Option Spread) → P (changed (settled most) rows b p o).reply
     changes b p None = tt
-    changes b p (Some old) = settles b (p ∷ []) Changed tt
+    changes b p (Some old) = settles b (spread (p ∷ [])) Changed tt
 
-    shortens : (b : Block) (o : Option PathList) → P (shortened (settled most) rows b o).reply
+    shortens : (b : Block) (o : Option Spread) → P (shortened (settled most) rows b o).reply
     shortens b None = tt
     shortens b (Some paths) = settles b paths Deleted tt
 
-    deletes : (b : Block) (gateway : Option ℕ) (o : Option PathList) → P (deleted (settled most) rows b gateway o).reply
-    deletes b gateway None = tt
-    deletes b None (Some paths) = tt
-    deletes b (Some gateway) (Some paths) =
-        cond_both (list_any (goes_by gateway) paths) (shortened (settled most) rows b (paths_left (left_by gateway paths))) (refused rows NotFound) (λ o. P o.reply) (λ _. shortens b (paths_left (left_by gateway paths))) (λ _. tt)
+    deletes : (keep : Bool) (b : Block) (gateway : Option ℕ) (o : Option Spread) → P (deleted keep (settled most) rows b gateway o).reply
+    deletes keep b gateway None = tt
+    deletes keep b None (Some s) = tt
+    deletes keep b (Some gateway) (Some s) =
+        cond_both (list_any (goes_by gateway) s.paths) (shortened (settled most) rows b (without keep gateway s)) (refused rows NotFound) (λ o. P o.reply) (λ _. shortens b (without keep gateway s)) (λ _. tt)
 
-    by_command : (d : Command w) → P (apply most rows d).reply
+    by_command : (d : Command w) → P (apply profile most rows d).reply
     by_command (Add prefix path) = adds prefix path (paths_at rows prefix)
     by_command (Change prefix path) = changes prefix path (paths_at rows prefix)
-    by_command (Delete prefix gateway) = deletes prefix gateway (paths_at rows prefix)
+    by_command (Delete prefix gateway) = deletes (keeps profile) prefix gateway (paths_at rows prefix)
     by_command Flush = omega arith
     by_command (Tick ms) = tt
     by_command Sync = tt
@@ -119,8 +121,8 @@ replies_few {w} most plan n reply e = by_command (slice_get plan.commands n) ref
   where
     by_command : (o : Option (Command w)) → slice_get plan.commands n ≡ o → FlushesAtMost routes_max reply
     by_command None there =
-        let none : Some reply ≡ None = e ∙ ap (option_map (λ c. (apply most (table_after most plan n) c).reply)) there in
+        let none : Some reply ≡ None = e ∙ ap (option_map (λ c. (apply plan.profile most (table_after most plan n) c).reply)) there in
         cc
     by_command (Some c) there =
-        let same : reply ≡ (apply most (table_after most plan n) c).reply = same_Some _ _ (e ∙ ap (option_map (λ c. (apply most (table_after most plan n) c).reply)) there) in
-        subst (FlushesAtMost routes_max) (sym same) (flushes_few most (table_after most plan n) c (tables_are_within w most plan n).room)
+        let same : reply ≡ (apply plan.profile most (table_after most plan n) c).reply = same_Some _ _ (e ∙ ap (option_map (λ c. (apply plan.profile most (table_after most plan n) c).reply)) there) in
+        subst (FlushesAtMost routes_max) (sym same) (flushes_few plan.profile most (table_after most plan n) c (tables_are_within w most plan n).room)

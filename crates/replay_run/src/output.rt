@@ -63,7 +63,7 @@ fn refusal_text(refusal: Refusal) -> &'static str
 }
 
 /// Appends the line of a get on the line of this number: its address, the version that it was
-/// answered at, and the nexthop, `None` where no route matched.
+/// answered at, and the nexthop, `None` where no route matched. `W` is 32 or 128.
 pub fn write_get<const W: u32>(
     alloc: Global,
     line: u32,
@@ -144,7 +144,7 @@ fn push_link<const W: u32>(nexthop: &Nexthop<W>, out: &mut Vec<u8>) -> Result<()
     push_number(u64::from(nexthop.mtu()), out)
 }
 
-/// Appends the line of a nexthop's packets.
+/// Appends the line of a nexthop's packets. `W` is 32 or 128.
 pub fn write_packets<const W: u32>(
     alloc: Global,
     count: u64,
@@ -163,7 +163,7 @@ pub fn write_packets<const W: u32>(
     out.extend_from_slice(b"\n")
 }
 
-/// Appends the line of a family's last version.
+/// Appends the line of a family's last version. `W` is 32 or 128.
 pub fn write_fib<const W: u32>(
     version: u64,
     routes: u32,

@@ -8,7 +8,8 @@ use crate::output::write_reply;
 use rib_store::Reply;
 
 /// The one reply to a line, by those of both families: that of its family or, for a flush of both,
-/// the sum of both numbers of routes. `None` where the line has none.
+/// the sum of both numbers of routes. `None` where the line has none. Each flush is of 262,144
+/// routes at most.
 pub fn one_reply(reply: Option<Reply>, reply6: Option<Reply>) -> Option<Reply>
     requires flushes { IfSome reply (FlushesAtMost routes_max) }
     requires flushes6 { IfSome reply6 (FlushesAtMost routes_max) }

@@ -4,7 +4,7 @@ ghost use Rattle.route_lang.specs.Spelling.{spelled};
 
 use crate::OutOfMemory;
 use crate::output::push_number;
-use route_lang::{Script, write_line};
+use route_lang::{Script, write_line, write_profile};
 use std::alloc::Global;
 
 /// What `check` tells of a script: how many lines its text has, and how many of them ask for
@@ -21,11 +21,13 @@ pub fn check_text(alloc: Global, script: &Script, lines: u32) -> Result<Vec<u8>,
     Ok(out)
 }
 
-/// What `show` writes: each line of the script in its canonical spelling.
+/// What `show` writes: the profile, where it is 2, and each line of the script in its canonical
+/// spelling.
 pub fn show_text(alloc: Global, script: &Script) -> Result<Vec<u8>, OutOfMemory>
     ensures { IfOk result (λ text. text.items ≡ spelled script.now) }
 {
     let mut out = Vec::new(alloc);
+    write_profile(script.profile(), &mut out)?;
     for i in 0..script.lines().len() {
         write_line(alloc, script, i, &mut out)?;
     }

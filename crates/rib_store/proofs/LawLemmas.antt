@@ -7,8 +7,8 @@ use Rattle.std.specs.Ordering.{is_eq}
 use Rattle.std.proofs.lemmas.List.{length-map}
 use Rattle.std.proofs.lemmas.Option.{same_Some, none-some}
 use Rattle.prefix_width.specs.Nexthop.{Hop}
-use Rattle.prefix_width.specs.Path.{WeightedHop}
 use Rattle.prefix_width.specs.Order.{hop_cmp}
+use Rattle.nhgrp_slots.specs.Spread.{Spread}
 use Rattle.nhgrp_slots.specs.declared.target.Target.{Target}
 use Rattle.nhgrp_slots.specs.declared.target.Target.TheVariants.{One, Many}
 use Rattle.rib_store.specs.Plan.{named, firsts}
@@ -42,7 +42,7 @@ numbers_differ w plan h k n e f = same_Some h k (sym (numbers_lead_back w plan h
 pub live_targets_are_counted : (w : ℕ) → LiveTargetsAreCounted w
 live_targets_are_counted w rows =
     let hs : List Hop = live_hops (values_of rows) in
-    let gs : List (List WeightedHop) = live_groups (values_of rows) in
+    let gs : List Spread = live_groups (values_of rows) in
     let both = length-append (ones {w = w} hs) (manies {w = w} gs) in
     let a : length (ones {w = w} hs) ≡ length hs = length-map {B = Target w} hs (λ h. One h) in
     let b : length (manies {w = w} gs) ≡ length gs = length-map {B = Target w} gs (λ ps. Many ps) in

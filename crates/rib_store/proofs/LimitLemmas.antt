@@ -8,7 +8,9 @@ use Rattle.prefix_width.specs.Prefix.{Block}
 use Rattle.prefix_width.specs.Path.{WeightedHop}
 use Rattle.prefix_width.specs.Order.{block_cmp}
 use Rattle.std.specs.BTreeMap.{is_at}
-use Rattle.nhgrp_slots.specs.PathList.{clashes, goes_by, has_via, left_by, paths_left}
+use Rattle.nhgrp_slots.specs.PathList.{clashes, goes_by}
+use Rattle.nhgrp_slots.specs.Spread.{Spread, has_via, spread, without}
+use Rattle.rib_store.specs.Profile.{keeps}
 use Rattle.rib_store.specs.Limits.{routes_max}
 use Rattle.rib_store.specs.declared.command.Command.{Command}
 use Rattle.rib_store.specs.declared.command.Command.TheVariants.{Add, Change, Delete, Flush, Tick, Sync, Algo}
@@ -36,7 +38,7 @@ among_left t (row ∷ rows) f e = go (t row.0) (among_left t rows f) e
     go true later e = or_right (f row.1) (list_any f (values_of rows)) e
     go false later e = or_more (f row.1) (list_any f (values_of (remove_entry t rows))) (list_any f (values_of rows)) later e
 
-among_kept : (t : Block × List WeightedHop → Bool) (rows : Table) → Among (filter t rows) rows
+among_kept : (t : Block × Spread → Bool) (rows : Table) → Among (filter t rows) rows
 among_kept t [] f e = e
 among_kept t (row ∷ rows) f e = go (t row) (among_kept t rows f) e
   where
@@ -50,7 +52,7 @@ length-left-le t (row ∷ rows) =
     let ih = length-left-le t rows in
     elim (t row.0) as (λ b. length (cond b rows (row ∷ remove_entry t rows)) ≤ length (row ∷ rows)) [ true ↦ omega arith | false ↦ omega arith ]
 
-length-kept-le : (t : Block × List WeightedHop → Bool) (rows : Table) → length (filter t rows) ≤ length rows
+length-kept-le : (t : Block × Spread → Bool) (rows : Table) → length (filter t rows) ≤ length rows
 length-kept-le t rows =
     let a = length-filter t rows in
     let b = count_by-le-length t rows in
@@ -90,40 +92,40 @@ module _ (live : ℕ) (rows : Table) where
     or_refused true why x y e = e
     or_refused false why x y e = refuses why
 
-    adds : (b : Block) (p : WeightedHop) (o : Option (List WeightedHop)) → added (settled live) rows b p o ≡ limited live rows (added placed rows b p o)
+    adds : (b : Block) (p : WeightedHop) (o : Option Spread) → added (settled live) rows b p o ≡ limited live rows (added placed rows b p o)
     adds b p None = refl
-    adds b p (Some paths) = refused_or (clashes paths p) Exists _ _ (refused_or (nat_le 64 (length paths)) PathsFull _ _ refl)
+    adds b p (Some s) = refused_or (clashes s.paths p) Exists _ _ (refused_or (nat_le 64 (length s.paths)) PathsFull _ _ refl)
 
-    replaces : (b : Block) (paths : List WeightedHop) (reply : Reply) (o : Option (List WeightedHop)) → replaced (settled live) rows b paths reply o ≡ limited live rows (replaced placed rows b paths reply o)
+    replaces : (b : Block) (paths : Spread) (reply : Reply) (o : Option Spread) → replaced (settled live) rows b paths reply o ≡ limited live rows (replaced placed rows b paths reply o)
     replaces b paths reply None = refuses NotFound
     replaces b paths reply (Some old) = refl
 
-    shortens : (b : Block) (o : Option (List WeightedHop)) → shortened (settled live) rows b o ≡ limited live rows (shortened placed rows b o)
+    shortens : (b : Block) (o : Option Spread) → shortened (settled live) rows b o ≡ limited live rows (shortened placed rows b o)
     shortens b None = drops b
     shortens b (Some paths) = refl
 
-    deletes : (b : Block) (g : Option ℕ) (o : Option (List WeightedHop)) → deleted (settled live) rows b g o ≡ limited live rows (deleted placed rows b g o)
-    deletes b g None = refuses NotFound
-    deletes b None (Some paths) = drops b
-    deletes b (Some g) (Some paths) = or_refused (list_any (goes_by g) paths) NotFound _ _ (shortens b (paths_left (left_by g paths)))
+    deletes : (keep : Bool) (b : Block) (g : Option ℕ) (o : Option Spread) → deleted keep (settled live) rows b g o ≡ limited live rows (deleted keep placed rows b g o)
+    deletes keep b g None = refuses NotFound
+    deletes keep b None (Some s) = drops b
+    deletes keep b (Some g) (Some s) = or_refused (list_any (goes_by g) s.paths) NotFound _ _ (shortens b (without keep g s))
 
-    pub tries : {w : _} (command : Command w) → apply live rows command ≡ tried live rows command
-    tries (Add prefix path) = adds prefix path (paths_at rows prefix)
-    tries (Change prefix path) = replaces prefix (path ∷ []) _ (paths_at rows prefix)
-    tries (Delete prefix gateway) = deletes prefix gateway (paths_at rows prefix)
-    tries Flush = passes _ (length-kept-le (λ row. not (has_via row.1)) rows) (live_count-le (left_by_flush rows) rows (among_kept (λ row. not (has_via row.1)) rows))
-    tries (Tick ms) = passes _ (omega arith) (omega arith)
-    tries Sync = passes _ (omega arith) (omega arith)
-    tries (Algo setting) = passes _ (omega arith) (omega arith)
+    pub tries : {w : _} (profile : ℕ) (command : Command w) → apply profile live rows command ≡ tried profile live rows command
+    tries profile (Add prefix path) = adds prefix path (paths_at rows prefix)
+    tries profile (Change prefix path) = replaces prefix (spread (path ∷ [])) _ (paths_at rows prefix)
+    tries profile (Delete prefix gateway) = deletes (keeps profile) prefix gateway (paths_at rows prefix)
+    tries profile Flush = passes _ (length-kept-le (λ row. not (has_via row.1)) rows) (live_count-le (left_by_flush rows) rows (among_kept (λ row. not (has_via row.1)) rows))
+    tries profile (Tick ms) = passes _ (omega arith) (omega arith)
+    tries profile Sync = passes _ (omega arith) (omega arith)
+    tries profile (Algo setting) = passes _ (omega arith) (omega arith)
 
 pub limits_are_tried : (w : ℕ) → LimitsAreTried w
-limits_are_tried w live rows command is = tries live rows is command
+limits_are_tried w profile live rows command is = tries live rows is profile command
 
 pub tables_are_within : (w : ℕ) → TablesAreWithin w
 tables_are_within w live plan c = go [] (take c plan.commands) (record { room = omega arith; few = omega arith })
   where
-    go : (rows : Table) (commands : List (Command w)) → IsWithin live rows → IsWithin live (fold (λ rs command. (apply live rs command).table) rows commands)
+    go : (rows : Table) (commands : List (Command w)) → IsWithin live rows → IsWithin live (fold (λ rs command. (apply plan.profile live rs command).table) rows commands)
     go rows [] is = is
     go rows (command ∷ commands) is =
-        go (apply live rows command).table commands
-        (subst (λ (made : Outcome). IsWithin live made.table) (sym (tries live rows is command)) (limited_within live rows (unlimited rows command) is))
+        go (apply plan.profile live rows command).table commands
+        (subst (λ (made : Outcome). IsWithin live made.table) (sym (tries live rows is plan.profile command)) (limited_within live rows (unlimited plan.profile rows command) is))

@@ -18,15 +18,16 @@ use Rattle.std.proofs.lemmas.Map.Keys.{IsDistinct-from_sorted}
 use Rattle.std.proofs.lemmas.Map.Lookups.{CmpEqualImpliesEq}
 use Rattle.std.proofs.lemmas.Map.Made.{length-le_from_is_member}
 use Rattle.prefix_width.specs.Nexthop.{Hop}
-use Rattle.prefix_width.specs.Path.{WeightedHop}
 use Rattle.prefix_width.specs.Order.{hop_cmp}
 use Rattle.prefix_width.proofs.OrderLemmas.{hop_total, hop_exact}
-use Rattle.nhgrp_slots.specs.Order.{paths_cmp, paths_total}
-use Rattle.nhgrp_slots.specs.PathList.{hops, names, IsPathList}
-use Rattle.nhgrp_slots.proofs.PathOrder.{paths_exact}
+use Rattle.nhgrp_slots.specs.Order.{spread_cmp, spread_total}
+use Rattle.nhgrp_slots.specs.PathList as list
+use Rattle.nhgrp_slots.specs.PathList.{PathList}
+use Rattle.nhgrp_slots.specs.Spread.{hops, is_group, IsSpread, names, Spread}
+use Rattle.nhgrp_slots.proofs.PathOrder.{spread_exact}
 use Rattle.counted_map.specs.Counts.{Counts, count_of, distinct, how_many, unlinked, unlinked_all}
 use Rattle.counted_map.proofs.CountMapLemmas.{keys_are_distinct, any-distinct, sorted-distinct}
-use Rattle.rib_store.specs.Live.{is_group, hops_of, live_hops, live_groups}
+use Rattle.rib_store.specs.Live.{hops_of, live_hops, live_groups}
 use Rattle.rib_store.specs.Table.{Table, live_count}
 use Rattle.rib_store.specs.Uses.{Uses, live_in, gained, lost, grown, shrunk, with_paths, without_old, AreCounts, HasPaths, HasOld, IsCounted}
 use Rattle.rib_store.proofs.CountedLemmas.{any-hops, AreCounts-with, live_in-with, live_in-without}
@@ -55,20 +56,20 @@ split true false a b = refl
 split false true a b = refl
 split false false a b = refl
 
-any-hops_of : (h : Hop) (lists : List (List WeightedHop)) → (list_any (λ ps. not (is_group ps) && names h ps) lists || list_any (λ ps. is_group ps && names h ps) lists) ≡ list_any (is_at (hop_cmp h)) (hops_of lists)
+any-hops_of : (h : Hop) (lists : List Spread) → (list_any (λ ps. not (is_group ps) && names h ps) lists || list_any (λ ps. is_group ps && names h ps) lists) ≡ list_any (is_at (hop_cmp h)) (hops_of lists)
 any-hops_of h [] = refl
 any-hops_of h (ps ∷ rest) =
     split (is_group ps) (names h ps) (list_any (λ qs. not (is_group qs) && names h qs) rest) (list_any (λ qs. is_group qs && names h qs) rest)
     ∙ ap (λ b. names h ps || b) (any-hops_of h rest)
-    ∙ ap (λ b. b || list_any (is_at (hop_cmp h)) (hops_of rest)) (sym (any-hops (is_at (hop_cmp h)) ps))
+    ∙ ap (λ b. b || list_any (is_at (hop_cmp h)) (hops_of rest)) (sym (any-hops (is_at (hop_cmp h)) ps.paths))
     ∙ sym (list_any-append (is_at (hop_cmp h)) (hops ps) (hops_of rest))
 
-pub keys_groups : (lists : List (List WeightedHop)) (u : Uses) → IsCounted lists u → AreCounts u → keys_of u.groups ≡ live_groups lists
+pub keys_groups : (lists : List Spread) (u : Uses) → IsCounted lists u → AreCounts u → keys_of u.groups ≡ live_groups lists
 keys_groups lists u counted are =
-    keys_are_distinct paths_cmp paths_total paths_exact u.groups (filter is_group lists) are.groups
-    (λ q. ap (nat_lt 0) (counted.groups q) ∙ any-count (λ ps. is_group ps && is_eq (paths_cmp q ps)) lists ∙ sym (any-filter (is_at (paths_cmp q)) is_group lists))
+    keys_are_distinct spread_cmp spread_total spread_exact u.groups (filter is_group lists) are.groups
+    (λ q. ap (nat_lt 0) (counted.groups q) ∙ any-count (λ ps. is_group ps && is_eq (spread_cmp q ps)) lists ∙ sym (any-filter (is_at (spread_cmp q)) is_group lists))
 
-pub keys_nhops : (lists : List (List WeightedHop)) (u : Uses) → IsCounted lists u → AreCounts u → keys_of u.nhops ≡ live_hops lists
+pub keys_nhops : (lists : List Spread) (u : Uses) → IsCounted lists u → AreCounts u → keys_of u.nhops ≡ live_hops lists
 keys_nhops lists u counted are =
     keys_are_distinct hop_cmp hop_total hop_exact u.nhops (hops_of lists) are.nhops
     (λ h. ap (nat_lt 0) (counted.nhops h) ∙ any-sum _ _
@@ -80,23 +81,23 @@ keys_nhops lists u counted are =
     in_groups h =
         any-count (names h) (keys_of u.groups)
         ∙ ap (list_any (names h)) (keys_groups lists u counted are)
-        ∙ any-distinct paths_cmp paths_total paths_exact (names h) (filter is_group lists)
+        ∙ any-distinct spread_cmp spread_total spread_exact (names h) (filter is_group lists)
         ∙ any-filter (names h) is_group lists
 
 -- the number of live targets is that of the entries
-pub counted_live : (lists : List (List WeightedHop)) (u : Uses) → IsCounted lists u → AreCounts u → live_in u ≡ length (live_hops lists) + length (live_groups lists)
+pub counted_live : (lists : List Spread) (u : Uses) → IsCounted lists u → AreCounts u → live_in u ≡ length (live_hops lists) + length (live_groups lists)
 counted_live lists u counted are =
     let a = sym (length-keys_of u.nhops) ∙ ap length (keys_nhops lists u counted are) in
     let b = sym (length-keys_of u.groups) ∙ ap length (keys_groups lists u counted are) in
     omega arith
 
 -- how many are live once the new paths are counted, and the old ones not any more
-pub after_none : (u : Uses) (new : List WeightedHop) (o : Option (List WeightedHop)) (l g : ℕ) → o ≡ None → l ≡ live_in u → g ≡ grown u new → AreCounts u → IsPathList new → l + g ≡ live_in (without_old (with_paths u new) o)
+pub after_none : (u : Uses) (new : Spread) (o : Option Spread) (l g : ℕ) → o ≡ None → l ≡ live_in u → g ≡ grown u new → AreCounts u → IsSpread new → l + g ≡ live_in (without_old (with_paths u new) o)
 after_none u new o l g e size more are is =
     let a = live_in-with u new are is in
     subst (λ x. l + g ≡ live_in (without_old (with_paths u new) x)) (sym e) (omega arith)
 
-pub after_some : (u : Uses) (new old : List WeightedHop) (o : Option (List WeightedHop)) (l g s : ℕ) → o ≡ Some old → l ≡ live_in u → g ≡ grown u new → s ≡ shrunk (with_paths u new) old → AreCounts u → IsPathList new → IsPathList old → HasOld (with_paths u new) o → (s ≤ l + g) × (l + g - s ≡ live_in (without_old (with_paths u new) o))
+pub after_some : (u : Uses) (new old : Spread) (o : Option Spread) (l g s : ℕ) → o ≡ Some old → l ≡ live_in u → g ≡ grown u new → s ≡ shrunk (with_paths u new) old → AreCounts u → IsSpread new → IsSpread old → HasOld (with_paths u new) o → (s ≤ l + g) × (l + g - s ≡ live_in (without_old (with_paths u new) o))
 after_some u new old o l g s e size more less are is js has =
     let a = live_in-with u new are is in
     let h : HasPaths (with_paths u new) old = subst (HasOld (with_paths u new)) e has in
@@ -109,21 +110,21 @@ how_many-le t (k ∷ ks) =
     let ih = how_many-le t ks in
     elim (t k) as (λ b. cond b 1 0 + how_many t ks ≤ length (k ∷ ks)) [ true ↦ omega arith | false ↦ omega arith ]
 
-length-hops : (ps : List WeightedHop) → length (hops ps) ≡ length ps
+length-hops : (ps : PathList) → length (list.hops ps) ≡ length ps
 length-hops [] = refl
 length-hops (p ∷ ps) = let ih = length-hops ps in omega arith
 
 -- a route brings no more targets to life than it has paths, and its group
-grown-le : (u : Uses) (ps : List WeightedHop) → grown u ps ≤ length ps + 1
+grown-le : (u : Uses) (ps : Spread) → grown u ps ≤ length ps.paths + 1
 grown-le u ps =
     let n = how_many-le (λ h. count_of hop_cmp u.nhops h == 0) (gained u ps) in
-    let l = of (is_group ps && not (count_of paths_cmp u.groups ps == 0)) in
-    let e = one (is_group ps && (count_of paths_cmp u.groups ps == 0)) in
+    let l = of (is_group ps && not (count_of spread_cmp u.groups ps == 0)) in
+    let e = one (is_group ps && (count_of spread_cmp u.groups ps == 0)) in
     omega arith
   where
-    of : (b : Bool) → length (cond b [] (hops ps)) ≤ length ps
+    of : (b : Bool) → length (cond b [] (hops ps)) ≤ length ps.paths
     of true = omega arith
-    of false = let h = length-hops ps in omega arith
+    of false = let h = length-hops ps.paths in omega arith
 
     one : (b : Bool) → cond b 1 0 ≤ 1
     one true = omega arith
@@ -150,19 +151,19 @@ length-unlinked_all-le cmp m (k ∷ ks) =
     omega arith
 
 -- a route less leaves no more targets
-live_in-without-le : (u : Uses) (o : Option (List WeightedHop)) → live_in (without_old u o) ≤ live_in u
+live_in-without-le : (u : Uses) (o : Option Spread) → live_in (without_old u o) ≤ live_in u
 live_in-without-le u None = omega arith
 live_in-without-le u (Some ps) =
     let n = length-unlinked_all-le hop_cmp u.nhops (lost u ps) in
     let g = go (is_group ps) in
     omega arith
   where
-    go : (b : Bool) → length (cond b (unlinked paths_cmp u.groups ps) u.groups) ≤ length u.groups
-    go true = length-unlinked-le paths_cmp u.groups ps
+    go : (b : Bool) → length (cond b (unlinked spread_cmp u.groups ps) u.groups) ≤ length u.groups
+    go true = length-unlinked-le spread_cmp u.groups ps
     go false = omega arith
 
 -- a limit so far away is not passed
-pub within_far : (u : Uses) (new : List WeightedHop) (o : Option (List WeightedHop)) (l n limit : ℕ) → l ≡ live_in u → n ≡ length new → l + n < limit → AreCounts u → IsPathList new → live_in (without_old (with_paths u new) o) ≤ limit
+pub within_far : (u : Uses) (new : Spread) (o : Option Spread) (l n limit : ℕ) → l ≡ live_in u → n ≡ length new.paths → l + n < limit → AreCounts u → IsSpread new → live_in (without_old (with_paths u new) o) ≤ limit
 within_far u new o l n limit size count far are is =
     let a = live_in-with u new are is in
     let b = grown-le u new in
@@ -194,9 +195,9 @@ distinct-le cmp o exact xs ys all =
 
 -- what some of the rows pass, some of all of them pass
 abbrev pub Among : Table → Table → Type 0
-Among less rows = (f : List WeightedHop → Bool) → list_any f (values_of less) ≡ true → list_any f (values_of rows) ≡ true
+Among less rows = (f : Spread → Bool) → list_any f (values_of less) ≡ true → list_any f (values_of rows) ≡ true
 
-pub any-in_hops : (f : Hop → Bool) (lists : List (List WeightedHop)) → list_any f (hops_of lists) ≡ list_any (λ ps. list_any f (hops ps)) lists
+pub any-in_hops : (f : Hop → Bool) (lists : List Spread) → list_any f (hops_of lists) ≡ list_any (λ ps. list_any f (hops ps)) lists
 any-in_hops f [] = refl
 any-in_hops f (ps ∷ rest) = list_any-append f (hops ps) (hops_of rest) ∙ ap (λ b. list_any f (hops ps) || b) (any-in_hops f rest)
 
@@ -204,7 +205,7 @@ any-in_hops f (ps ∷ rest) = list_any-append f (hops ps) (hops_of rest) ∙ ap 
 pub live_count-le : (less rows : Table) → Among less rows → live_count less ≤ live_count rows
 live_count-le less rows among =
     let h = distinct-le hop_cmp hop_total hop_exact (hops_of (values_of less)) (hops_of (values_of rows)) (λ q e. hop q e) in
-    let g = distinct-le paths_cmp paths_total paths_exact (filter is_group (values_of less)) (filter is_group (values_of rows)) (λ q e. group q e) in
+    let g = distinct-le spread_cmp spread_total spread_exact (filter is_group (values_of less)) (filter is_group (values_of rows)) (λ q e. group q e) in
     omega arith
   where
     hop : (q : Hop) → list_any (is_at (hop_cmp q)) (hops_of (values_of less)) ≡ true → list_any (is_at (hop_cmp q)) (hops_of (values_of rows)) ≡ true
@@ -212,7 +213,7 @@ live_count-le less rows among =
         any-in_hops (is_at (hop_cmp q)) (values_of rows)
         ∙ among (λ ps. list_any (is_at (hop_cmp q)) (hops ps)) (sym (any-in_hops (is_at (hop_cmp q)) (values_of less)) ∙ e)
 
-    group : (q : List WeightedHop) → list_any (is_at (paths_cmp q)) (filter is_group (values_of less)) ≡ true → list_any (is_at (paths_cmp q)) (filter is_group (values_of rows)) ≡ true
+    group : (q : Spread) → list_any (is_at (spread_cmp q)) (filter is_group (values_of less)) ≡ true → list_any (is_at (spread_cmp q)) (filter is_group (values_of rows)) ≡ true
     group q e =
-        any-filter (is_at (paths_cmp q)) is_group (values_of rows)
-        ∙ among (λ ps. is_group ps && is_eq (paths_cmp q ps)) (sym (any-filter (is_at (paths_cmp q)) is_group (values_of less)) ∙ e)
+        any-filter (is_at (spread_cmp q)) is_group (values_of rows)
+        ∙ among (λ ps. is_group ps && is_eq (spread_cmp q ps)) (sym (any-filter (is_at (spread_cmp q)) is_group (values_of less)) ∙ e)

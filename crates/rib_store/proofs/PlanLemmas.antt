@@ -1,5 +1,5 @@
 -- Nexthops numbered by first appearance: what one more does to them.
-use Rattle.std.proofs.Common.{◌≡◌, ◌∙◌, ℕ, ◌+◌, ◌<◌, ◌≤◌, Bool, true, false, cond, not, ◌||◌, List, [], ◌∷◌, ◌++◌, Option, Some, None, length, refl, sym, ap, arith, rules, add-zero, length-append}
+use Rattle.std.proofs.Common.{◌≡◌, ◌∙◌, ℕ, ◌+◌, ◌<◌, ◌≤◌, Bool, true, false, cond, not, ◌||◌, List, [], ◌∷◌, ◌++◌, Option, Some, None, length, refl, sym, ap, subst, arith, rules, add-zero, length-append}
 use Rattle.std.specs.Prelude.{Contains, filter, is_some, IsSome, ◌↔◌}
 use Rattle.std.specs.List.{list_any, position_from, cons_option, filter_map}
 use Rattle.std.specs.Ordering.{is_eq}
@@ -17,6 +17,7 @@ use Rattle.counted_map.proofs.CountMapLemmas.{eq_from_is_eq}
 use Rattle.rib_store.specs.declared.command.Command.{Command}
 use Rattle.rib_store.specs.Limits.{plan_max}
 use Rattle.rib_store.specs.Plan.{Planned, named_by, named, is_other, firsts, place_in, number_of, with_first, IsNumbering, IsPlan, IsWrongModule}
+use Rattle.rib_store.specs.Profile.{IsProfile}
 use Rattle.rib_store.specs.Weights.{IsWeighted}
 
 -- nexthops that the order finds the same are one
@@ -153,8 +154,9 @@ module _ {w : ℕ} where
       more (Some h) = firsts-append (filter_map named_by commands) h
 
   -- a plan with one command more
-  pub IsPlan-with : (plan plan' : Planned w) (hops hops' : List Hop) (numbers numbers' : List (Hop × ℕ)) (c : Command w) → IsPlan plan hops numbers → length plan.commands < plan_max → ¬ (IsWrongModule c) → IsWeighted c → plan'.commands ≡ plan.commands ++ c ∷ [] → hops' ≡ with_first hops (named_by c) → IsNumbering hops' numbers' → IsPlan plan' hops' numbers'
-  IsPlan-with plan plan' hops hops' numbers numbers' c is room right weighted items e numbering = record {
+  pub IsPlan-with : (plan plan' : Planned w) (hops hops' : List Hop) (numbers numbers' : List (Hop × ℕ)) (c : Command w) → IsPlan plan hops numbers → length plan.commands < plan_max → ¬ (IsWrongModule c) → IsWeighted c → plan'.profile ≡ plan.profile → plan'.commands ≡ plan.commands ++ c ∷ [] → hops' ≡ with_first hops (named_by c) → IsNumbering hops' numbers' → IsPlan plan' hops' numbers'
+  IsPlan-with plan plan' hops hops' numbers numbers' c is room right weighted same items e numbering = record {
+    profile = subst IsProfile (sym same) is.profile;
     most = let more : length plan'.commands ≡ length (plan.commands ++ c ∷ []) = ap length items in omega (arith, length-append {A = Command w});
     modules = All-same allowed plan'.commands (plan.commands ++ c ∷ []) items (All-push allowed plan.commands c is.modules right);
     weights = All-same IsWeighted plan'.commands (plan.commands ++ c ∷ []) items (All-push IsWeighted plan.commands c is.weights weighted);

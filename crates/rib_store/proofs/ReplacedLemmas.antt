@@ -1,5 +1,5 @@
 -- Paths that are put in place of those of a row: the table, the counts and the outcome.
-use Rattle.std.proofs.Common.{◌≡◌, ℕ, ◌+◌, ◌<◌, ◌≤◌, List, [], ◌∷◌, length, Some, None, refl, sym, ◌∙◌, ap, arith, cond}
+use Rattle.std.proofs.Common.{◌≡◌, ℕ, ◌+◌, ◌<◌, ◌≤◌, [], ◌∷◌, length, Some, None, refl, sym, ◌∙◌, ap, arith, cond}
 use Rattle.std.specs.Prelude.{is_some}
 use Rattle.std.specs.declared.cmp.Ordering.{Ordering}
 use Rattle.std.specs.declared.cmp.Ordering.TheVariants.{Less, Equal, Greater}
@@ -14,9 +14,8 @@ use Rattle.std.proofs.lemmas.Map.{lookup-none}
 use Rattle.std.proofs.lemmas.Map.Entries.{none_below_head}
 use Rattle.std.proofs.lemmas.Map.Steps.{set_value_same}
 use Rattle.prefix_width.specs.Prefix.{Block}
-use Rattle.prefix_width.specs.Path.{WeightedHop}
 use Rattle.prefix_width.specs.Order.{block_cmp}
-use Rattle.nhgrp_slots.specs.PathList.{IsPathList}
+use Rattle.nhgrp_slots.specs.Spread.{IsSpread, Spread}
 use Rattle.rib_store.specs.declared.command.Refusal.TheVariants.{TargetsFull, TableFull}
 use Rattle.rib_store.specs.declared.command.Reply.{Reply}
 use Rattle.rib_store.specs.Limits.{routes_max}
@@ -26,7 +25,7 @@ use Rattle.rib_store.proofs.TableLemmas.{block_total}
 use Rattle.rib_store.proofs.SettledLemmas.{settles, rib_room, rib_next, length_found, length_missing, table_full, targets_full, put_in}
 
 -- the row of a prefix that has one takes the paths in its place
-pub set_row : (rows : Table) (b : Block) (old new : List WeightedHop) → Some old ≡ paths_at rows b → IsStrictlySortedBy block_cmp (keys_of rows) → set_value (is_at (block_cmp b)) rows new ≡ put_row rows b new
+pub set_row : (rows : Table) (b : Block) (old new : Spread) → Some old ≡ paths_at rows b → IsStrictlySortedBy block_cmp (keys_of rows) → set_value (is_at (block_cmp b)) rows new ≡ put_row rows b new
 unfolding IsStrictlySortedBy
 set_row [] b old new e up = cc
 set_row (r ∷ rs) b old new e up = go (block_cmp b r.0) refl e (λ h. set_row rs b old new h up.1)
@@ -39,7 +38,7 @@ set_row (r ∷ rs) b old new e up = go (block_cmp b r.0) refl e (λ h. set_row r
     go Greater f h later = ap (λ x. r ∷ x) (later h)
 
 -- what is known where the paths of a prefix's row are to be replaced
-pub record IsReplaced (live : ℕ) (rows : Table) (u : Uses) (b : Block) (old new : List WeightedHop) (reply : Reply) : Type 0 where
+pub record IsReplaced (live : ℕ) (rows : Table) (u : Uses) (b : Block) (old new : Spread) (reply : Reply) : Type 0 where
   pub room : HasRoom u
   pub has : HasPaths (with_paths u new) old
   pub same : set_value (is_at (block_cmp b)) rows old ≡ rows
@@ -48,7 +47,7 @@ pub record IsReplaced (live : ℕ) (rows : Table) (u : Uses) (b : Block) (old ne
   pub done : (m : ℕ) → m ≡ live_in (without_paths (with_paths u new) old) → m ≤ live → replaced (settled live) rows b new reply (paths_at rows b) ≡ record { table = put_row rows b new; reply = reply }
   pub rib : (m : ℕ) → m ≡ live_in (without_paths (with_paths u new) old) → m ≤ live → IsRib live (put_row rows b new) (without_paths (with_paths u new) old)
 
-pub replaces : (live : ℕ) (rows : Table) (u : Uses) (b : Block) (old new : List WeightedHop) (reply : Reply) → Some old ≡ paths_at rows b → IsStrictlySortedBy block_cmp (keys_of rows) → IsRib live rows u → AreCounts u → IsPathList new → IsReplaced live rows u b old new reply
+pub replaces : (live : ℕ) (rows : Table) (u : Uses) (b : Block) (old new : Spread) (reply : Reply) → Some old ≡ paths_at rows b → IsStrictlySortedBy block_cmp (keys_of rows) → IsRib live rows u → AreCounts u → IsSpread new → IsReplaced live rows u b old new reply
 replaces live rows u b old new reply e up rib are is =
     let s = settles live rows u b new (Some old) e up rib are is in
     let n : length rows ≡ length (put_row rows b new) = length_found rows b new (length rows) refl (ap is_some (sym e)) up in
@@ -65,14 +64,14 @@ replaces live rows u b old new reply e up rib are is =
     }
 
 -- what is known where paths are to be the row of a prefix that has none
-pub record IsNewRow (live : ℕ) (rows : Table) (u : Uses) (b : Block) (new : List WeightedHop) (reply : Reply) : Type 0 where
+pub record IsNewRow (live : ℕ) (rows : Table) (u : Uses) (b : Block) (new : Spread) (reply : Reply) : Type 0 where
   pub room : HasRoom u
   pub table_full : (n : ℕ) → n ≡ length rows → routes_max ≤ n → settled live rows b new reply ≡ refused rows TableFull
   pub targets_full : (n m : ℕ) → n ≡ length rows → n < routes_max → m ≡ live_in (with_paths u new) → live < m → settled live rows b new reply ≡ refused rows TargetsFull
   pub done : (n m : ℕ) → n ≡ length rows → n < routes_max → m ≡ live_in (with_paths u new) → m ≤ live → settled live rows b new reply ≡ record { table = put_row rows b new; reply = reply }
   pub rib : (n m : ℕ) → n ≡ length rows → n < routes_max → m ≡ live_in (with_paths u new) → m ≤ live → IsRib live (put_row rows b new) (with_paths u new)
 
-pub puts_new : (live : ℕ) (rows : Table) (u : Uses) (b : Block) (new : List WeightedHop) (reply : Reply) → paths_at rows b ≡ None → IsStrictlySortedBy block_cmp (keys_of rows) → IsRib live rows u → AreCounts u → IsPathList new → IsNewRow live rows u b new reply
+pub puts_new : (live : ℕ) (rows : Table) (u : Uses) (b : Block) (new : Spread) (reply : Reply) → paths_at rows b ≡ None → IsStrictlySortedBy block_cmp (keys_of rows) → IsRib live rows u → AreCounts u → IsSpread new → IsNewRow live rows u b new reply
 puts_new live rows u b new reply e up rib are is =
     let s = settles live rows u b new None (sym e) up rib are is in
     let more : (n : ℕ) → n ≡ length rows → n + 1 ≡ length (put_row rows b new) = λ n f. length_missing rows b new n f (ap is_some e) up in

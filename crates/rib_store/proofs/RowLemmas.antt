@@ -1,5 +1,5 @@
--- The rows of every table of a plan: in order, with lists of paths, of weights that their kinds may have.
-use Rattle.std.proofs.Common.{◌≡◌, ◌∙◌, ℕ, ◌≤◌, Bool, true, false, cond, not, List, [], ◌∷◌, length, filter, refl, ap, arith}
+-- The rows of every table of a plan: in order, with lists of paths, of weights that their kinds may have, and layouts.
+use Rattle.std.proofs.Common.{◌≡◌, ◌∙◌, ℕ, Bool, true, false, cond, not, List, [], ◌∷◌, filter, refl, ap, arith}
 use Rattle.std.specs.Prelude.{All}
 use Rattle.std.specs.List.{AllByRecursion}
 use Rattle.std.specs.List.Sorted.{IsStrictlySortedBy}
@@ -13,13 +13,15 @@ use Rattle.std.proofs.lemmas.Map.Views.{All-values-insert_entry, All-map-remove_
 use Rattle.prefix_width.specs.Prefix.{Block}
 use Rattle.prefix_width.specs.Path.{WeightedHop}
 use Rattle.prefix_width.specs.Order.{block_cmp, hop_cmp}
-use Rattle.nhgrp_slots.specs.PathList.{IsPathList, put_path, goes_by, has_via, left_by}
+use Rattle.nhgrp_slots.specs.PathList.{PathList, IsPathList, put_path, goes_by, left_by}
+use Rattle.nhgrp_slots.specs.Spread.{Spread, IsSpread, has_via}
 use Rattle.nhgrp_slots.specs.Slots.{HaveWeights}
 use Rattle.nhgrp_slots.proofs.PathLemmas.{joins, single, filtered}
+use Rattle.nhgrp_slots.proofs.SpreadLemmas.{left_are_spreads, spreads_are_of_paths}
 use Rattle.rib_store.specs.declared.command.Command.{Command}
 use Rattle.rib_store.specs.declared.command.Command.TheVariants.{Add, Change, Delete, Flush, Tick, Sync, Algo}
-use Rattle.rib_store.specs.Laws.{TablesAreInOrder, TablesHaveWeights}
-use Rattle.rib_store.specs.Table.{Table, IsTable, put_row, drop_row, left_by_flush}
+use Rattle.rib_store.specs.Laws.{TablesAreInOrder, TablesAreSpread}
+use Rattle.rib_store.specs.Table.{Table, IsTable, put_row}
 use Rattle.rib_store.specs.Weights.{HasWeight, IsWeighted}
 use Rattle.rib_store.proofs.KeptLemmas.{Brings, IsKept, tables_keep}
 use Rattle.rib_store.proofs.SettledLemmas.{all-kept}
@@ -31,7 +33,7 @@ all_weaker : (P Q : Block → Type 0) → ((b : Block) → P b → Q b) → (bs 
 all_weaker P Q f [] all = tt
 all_weaker P Q f (b ∷ bs) all = (f b all.0, all_weaker P Q f bs all.1)
 
-all-put : (P : Block → Type 0) (rows : Table) (b : Block) (paths : List WeightedHop) → P b → AllByRecursion P (keys_of rows) → AllByRecursion P (keys_of (put_row rows b paths))
+all-put : (P : Block → Type 0) (rows : Table) (b : Block) (paths : Spread) → P b → AllByRecursion P (keys_of rows) → AllByRecursion P (keys_of (put_row rows b paths))
 all-put P [] b paths p all = (p, tt)
 all-put P (row ∷ rows) b paths p all =
     let later = all-put P rows b paths p all.1 in
@@ -41,7 +43,7 @@ all-put P (row ∷ rows) b paths p all =
       | Greater ↦ (all.0, later)
     ]
 
-sorted-put : (rows : Table) (b : Block) (paths : List WeightedHop) → IsStrictlySortedBy block_cmp (keys_of rows) → IsStrictlySortedBy block_cmp (keys_of (put_row rows b paths))
+sorted-put : (rows : Table) (b : Block) (paths : Spread) → IsStrictlySortedBy block_cmp (keys_of rows) → IsStrictlySortedBy block_cmp (keys_of (put_row rows b paths))
 unfolding IsStrictlySortedBy
 sorted-put [] b paths up = (tt, tt)
 sorted-put (row ∷ rows) b paths up = go (block_cmp b row.0) refl (sorted-put rows b paths up.1)
@@ -67,13 +69,13 @@ sorted-drop t (row ∷ rows) up =
     let all = all-drop (λ x. block_cmp row.0 x ≡ Less) t rows up.0 in
     elim (t row.0) as (λ b. IsStrictlySortedBy block_cmp (keys_of (cond b rows (row ∷ remove_entry t rows)))) [ true ↦ up.1 | false ↦ (all, ih) ]
 
-all-filter : (P : Block → Type 0) (t : Block × List WeightedHop → Bool) (rows : Table) → AllByRecursion P (keys_of rows) → AllByRecursion P (keys_of (filter t rows))
+all-filter : (P : Block → Type 0) (t : Block × Spread → Bool) (rows : Table) → AllByRecursion P (keys_of rows) → AllByRecursion P (keys_of (filter t rows))
 all-filter P t [] all = all
 all-filter P t (row ∷ rows) all =
     let later = all-filter P t rows all.1 in
     elim (t row) as (λ b. AllByRecursion P (keys_of (cond b (row ∷ filter t rows) (filter t rows)))) [ true ↦ (all.0, later) | false ↦ later ]
 
-sorted-filter : (t : Block × List WeightedHop → Bool) (rows : Table) → IsStrictlySortedBy block_cmp (keys_of rows) → IsStrictlySortedBy block_cmp (keys_of (filter t rows))
+sorted-filter : (t : Block × Spread → Bool) (rows : Table) → IsStrictlySortedBy block_cmp (keys_of rows) → IsStrictlySortedBy block_cmp (keys_of (filter t rows))
 unfolding IsStrictlySortedBy
 sorted-filter t [] up = up
 sorted-filter t (row ∷ rows) up =
@@ -86,26 +88,29 @@ sorted-filter t (row ∷ rows) up =
 any_path : WeightedHop → Type 0
 any_path p = Unit {0}
 
-tables : IsKept IsTable IsPathList any_path
+abbrev IsList : Spread → Type 0
+IsList s = IsPathList s.paths
+
+tables : IsKept IsTable IsList any_path
 unfolding IsStrictlySortedBy
 tables = record {
-  start = record { ascending = tt; lists = All-nil IsPathList };
+  start = record { ascending = tt; lists = All-nil IsList };
   put = λ rows b paths is list. record {
     ascending = sorted-put rows b paths is.ascending;
-    lists = All-values-insert_entry block_cmp b paths IsPathList rows is.lists list;
+    lists = All-values-insert_entry block_cmp b paths IsList rows is.lists list;
   };
   drop = λ rows b is. record {
     ascending = sorted-drop (is_at (block_cmp b)) rows is.ascending;
-    lists = All-map-remove_entry (is_at (block_cmp b)) (λ e. e.1) IsPathList rows is.lists;
+    lists = All-map-remove_entry (is_at (block_cmp b)) (λ e. e.1) IsList rows is.lists;
   };
   flush = λ rows is. record {
     ascending = sorted-filter (λ row. not (has_via row.1)) rows is.ascending;
-    lists = all-kept IsPathList (λ row. not (has_via row.1)) rows is.lists;
+    lists = all-kept IsList (λ row. not (has_via row.1)) rows is.lists;
   };
-  found = λ rows b is. IfSome-lookup_from_All IsPathList (is_at (block_cmp b)) rows is.lists;
+  found = λ rows b is. IfSome-lookup_from_All IsList (is_at (block_cmp b)) rows is.lists;
   one = λ p new. single (p ∷ []) p refl;
-  join = λ paths p list new apart room. joins paths p list apart room;
-  left = λ g paths list some. filtered (λ p. not (goes_by g p)) paths (left_by g paths) refl some list;
+  join = λ s p list new apart room. joins s.paths p list apart room;
+  left = λ keep g s list some. filtered (λ p. not (goes_by g p)) s.paths (left_by g s.paths) refl some list;
 }
 
 any_command : {w : _} (command : Command w) → Brings any_path command
@@ -125,9 +130,9 @@ all_commands (command ∷ commands) = All-cons (Brings any_path) command command
 pub tables_are_in_order : (w : ℕ) → TablesAreInOrder w
 tables_are_in_order w live plan c = tables_keep tables live plan c (all_commands plan.commands)
 
--- ---- weights
+-- ---- weights and layouts
 
-put_weighted : (ps : List WeightedHop) (p : WeightedHop) → All HasWeight ps → HasWeight p → HaveWeights (put_path ps p)
+put_weighted : (ps : PathList) (p : WeightedHop) → All HasWeight ps → HasWeight p → HaveWeights (put_path ps p)
 put_weighted [] p all has = (omega arith, All-cons HasWeight p [] has (All-nil HasWeight))
 put_weighted (q ∷ qs) p all has =
     let first = All-head HasWeight q qs all in
@@ -137,16 +142,18 @@ put_weighted (q ∷ qs) p all has =
       | false ↦ (omega arith, All-cons HasWeight q (put_path qs p) first later.1)
     ]
 
-weights : IsKept (λ rows. All HaveWeights (values_of rows)) HaveWeights HasWeight
-weights = record {
-  start = All-nil HaveWeights;
-  put = λ rows b paths is list. All-values-insert_entry block_cmp b paths HaveWeights rows is list;
-  drop = λ rows b is. All-map-remove_entry (is_at (block_cmp b)) (λ e. e.1) HaveWeights rows is;
-  flush = λ rows is. all-kept HaveWeights (λ row. not (has_via row.1)) rows is;
-  found = λ rows b is. IfSome-lookup_from_All HaveWeights (is_at (block_cmp b)) rows is;
-  one = λ p has. (omega arith, All-cons HasWeight p [] has (All-nil HasWeight));
-  join = λ paths p list has apart room. put_weighted paths p list.1 has;
-  left = λ g paths list some. (some, All-filter (λ p. not (goes_by g p)) HasWeight paths list.1);
+spreads : IsKept (λ rows. All IsSpread (values_of rows)) IsSpread HasWeight
+spreads = record {
+  start = All-nil IsSpread;
+  put = λ rows b paths is list. All-values-insert_entry block_cmp b paths IsSpread rows is list;
+  drop = λ rows b is. All-map-remove_entry (is_at (block_cmp b)) (λ e. e.1) IsSpread rows is;
+  flush = λ rows is. all-kept IsSpread (λ row. not (has_via row.1)) rows is;
+  found = λ rows b is. IfSome-lookup_from_All IsSpread (is_at (block_cmp b)) rows is;
+  one = λ p has. spreads_are_of_paths (p ∷ []) (single (p ∷ []) p refl) (omega arith, All-cons HasWeight p [] has (All-nil HasWeight));
+  join = λ s p is has apart room. spreads_are_of_paths (put_path s.paths p) (joins s.paths p is.list apart room) (put_weighted s.paths p is.weights.1 has);
+  left = λ keep g s is some. left_are_spreads keep s (left_by g s.paths) is
+      (filtered (λ p. not (goes_by g p)) s.paths (left_by g s.paths) refl some is.list)
+      (some, All-filter (λ p. not (goes_by g p)) HasWeight s.paths is.weights.1);
 }
 
 brings_weight : {w : _} (command : Command w) → IsWeighted command → Brings HasWeight command
@@ -158,5 +165,5 @@ brings_weight (Tick ms) has = has
 brings_weight Sync has = has
 brings_weight (Algo setting) has = has
 
-pub tables_have_weights : (w : ℕ) → TablesHaveWeights w
-tables_have_weights w live plan c all = tables_keep weights live plan c (All-weaker (IsWeighted {w = w}) (Brings HasWeight) brings_weight plan.commands all)
+pub tables_are_spread : (w : ℕ) → TablesAreSpread w
+tables_are_spread w live plan c all = tables_keep spreads live plan c (All-weaker (IsWeighted {w = w}) (Brings HasWeight) brings_weight plan.commands all)

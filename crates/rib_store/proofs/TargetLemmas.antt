@@ -1,5 +1,5 @@
 -- The live targets: they ascend, the nexthops of each group are among them, and so is what each route leads to.
-use Rattle.std.proofs.Common.{◌≡◌, ◌∙◌, ℕ, ◌≤◌, Bool, true, false, not, ◌||◌, ◌&&◌, List, [], ◌∷◌, ◌++◌, map, filter, length, refl, sym, ap, arith, inl, inr}
+use Rattle.std.proofs.Common.{◌≡◌, ◌∙◌, ℕ, ◌≤◌, Bool, true, false, not, ◌||◌, ◌&&◌, List, [], ◌∷◌, map, filter, length, refl, sym, ap, subst, arith, inl, inr}
 use Rattle.std.specs.Prelude.{All, Contains}
 use Rattle.std.specs.List.{list_any, AllByRecursion}
 use Rattle.std.specs.List.Sorted.{IsStrictlySortedBy}
@@ -13,19 +13,20 @@ use Rattle.std.proofs.lemmas.List.Elements.{All-nil, All-cons, All-head, All-tai
 use Rattle.std.proofs.lemmas.List.Folds.{list_any-append}
 use Rattle.std.proofs.lemmas.Map.Views.{Contains-from_any}
 use Rattle.prefix_width.specs.Nexthop.{Hop}
-use Rattle.prefix_width.specs.Path.{WeightedHop}
 use Rattle.prefix_width.specs.Order.{hop_cmp}
 use Rattle.prefix_width.proofs.OrderLemmas.{hop_total, hop_exact}
 use Rattle.counted_map.proofs.CountMapLemmas.{any-distinct, eq_from_is_eq, sorted-distinct}
-use Rattle.nhgrp_slots.specs.Order.{paths_cmp, paths_total}
-use Rattle.nhgrp_slots.specs.PathList.{IsGroup, IsPathList, hops}
-use Rattle.nhgrp_slots.specs.Target.{IsTarget, target_cmp}
+use Rattle.nhgrp_slots.specs.Order.{spread_cmp, spread_total}
+use Rattle.nhgrp_slots.specs.PathList as list
+use Rattle.nhgrp_slots.specs.PathList.{PathList, IsPathList}
+use Rattle.nhgrp_slots.specs.Spread.{Spread, IsGroup, are_several, hops, is_group}
+use Rattle.nhgrp_slots.specs.Target.{IsTarget, target_cmp, target_in, target_of}
 use Rattle.nhgrp_slots.specs.declared.target.Target.{Target}
 use Rattle.nhgrp_slots.specs.declared.target.Target.TheVariants.{One, Many}
-use Rattle.nhgrp_slots.proofs.PathOrder.{paths_exact}
-use Rattle.rib_store.specs.Live.{is_group, hops_of, live_hops, live_groups}
+use Rattle.nhgrp_slots.proofs.PathOrder.{spread_exact}
+use Rattle.rib_store.specs.Live.{hops_of, live_hops, live_groups}
 use Rattle.rib_store.specs.Table.{Table}
-use Rattle.rib_store.specs.Targets.{target_of, ones, manies, targets_of, live, HasHops, AreClosed, LeadToLive}
+use Rattle.rib_store.specs.Targets.{ones, manies, targets_of, live, HasHops, AreClosed, LeadToLive}
 use Rattle.rib_store.proofs.LiveLemmas.{any-filter, any-in_hops}
 
 -- what an element passes, some element passes
@@ -60,15 +61,15 @@ any-never f (x ∷ xs) e = go (f x) e (any-never f xs)
     go true e later = later e
     go false e later = later e
 
-group_length : (ps : List WeightedHop) → is_group ps ≡ true → IsGroup ps
+group_length : (ps : PathList) → are_several ps ≡ true → 2 ≤ length ps
 group_length [] e = absurd (false≢true e)
 group_length (p ∷ []) e = absurd (false≢true e)
 group_length (p ∷ q ∷ ps) e = omega arith
 
 -- what a group passes, a group of the table passes
-in_table : (lists : List (List WeightedHop)) (ps : List WeightedHop) → Passes (live_groups lists) ps → (f : List WeightedHop → Bool) → f ps ≡ true → list_any (λ qs. is_group qs && f qs) lists ≡ true
+in_table : (lists : List Spread) (ps : Spread) → Passes (live_groups lists) ps → (f : Spread → Bool) → f ps ≡ true → list_any (λ qs. is_group qs && f qs) lists ≡ true
 in_table lists ps pass f e =
-    sym (any-filter f is_group lists) ∙ sym (any-distinct paths_cmp paths_total paths_exact f (filter is_group lists)) ∙ pass f e
+    sym (any-filter f is_group lists) ∙ sym (any-distinct spread_cmp spread_total spread_exact f (filter is_group lists)) ∙ pass f e
 
 module _ (w : ℕ) where
   -- targets that compare equal are one
@@ -76,27 +77,27 @@ module _ (w : ℕ) where
   one_target (One x) (One y) e = ap {B = Target w} (λ h. One h) (hop_exact x y (eq_from_is_eq (hop_cmp x y) e))
   one_target (One x) (Many y) e = absurd (false≢true e)
   one_target (Many x) (One y) e = absurd (false≢true e)
-  one_target (Many x) (Many y) e = ap {B = Target w} (λ ps. Many ps) (paths_exact x y (eq_from_is_eq (paths_cmp x y) e))
+  one_target (Many x) (Many y) e = ap {B = Target w} (λ ps. Many ps) (spread_exact x y (eq_from_is_eq (spread_cmp x y) e))
 
   -- the targets of ascending nexthops and groups ascend
-  after_group : (g : List WeightedHop) (gs : List (List WeightedHop)) → AllByRecursion (λ k. paths_cmp g k ≡ Less) gs → AllByRecursion (λ t. target_cmp {w = w} (Many g) t ≡ Less) (manies {w = w} gs)
+  after_group : (g : Spread) (gs : List Spread) → AllByRecursion (λ k. spread_cmp g k ≡ Less) gs → AllByRecursion (λ t. target_cmp {w = w} (Many g) t ≡ Less) (manies {w = w} gs)
   after_group g [] all = tt
   after_group g (k ∷ gs) all = (all.0, after_group g gs all.1)
 
-  groups_after : (h : Hop) (gs : List (List WeightedHop)) → AllByRecursion (λ t. target_cmp {w = w} (One h) t ≡ Less) (manies {w = w} gs)
+  groups_after : (h : Hop) (gs : List Spread) → AllByRecursion (λ t. target_cmp {w = w} (One h) t ≡ Less) (manies {w = w} gs)
   groups_after h [] = tt
   groups_after h (g ∷ gs) = (refl, groups_after h gs)
 
-  after_hop : (h : Hop) (hs : List Hop) (gs : List (List WeightedHop)) → AllByRecursion (λ k. hop_cmp h k ≡ Less) hs → AllByRecursion (λ t. target_cmp {w = w} (One h) t ≡ Less) (targets_of {w = w} hs gs)
+  after_hop : (h : Hop) (hs : List Hop) (gs : List Spread) → AllByRecursion (λ k. hop_cmp h k ≡ Less) hs → AllByRecursion (λ t. target_cmp {w = w} (One h) t ≡ Less) (targets_of {w = w} hs gs)
   after_hop h [] gs all = groups_after h gs
   after_hop h (k ∷ hs) gs all = (all.0, after_hop h hs gs all.1)
 
-  groups_ascend : (gs : List (List WeightedHop)) → IsStrictlySortedBy paths_cmp gs → IsStrictlySortedBy (target_cmp {w = w}) (manies {w = w} gs)
+  groups_ascend : (gs : List Spread) → IsStrictlySortedBy spread_cmp gs → IsStrictlySortedBy (target_cmp {w = w}) (manies {w = w} gs)
   unfolding IsStrictlySortedBy
   groups_ascend [] up = tt
   groups_ascend (g ∷ gs) up = (after_group g gs up.0, groups_ascend gs up.1)
 
-  targets_ascend : (hs : List Hop) (gs : List (List WeightedHop)) → IsStrictlySortedBy hop_cmp hs → IsStrictlySortedBy paths_cmp gs → IsStrictlySortedBy (target_cmp {w = w}) (targets_of {w = w} hs gs)
+  targets_ascend : (hs : List Hop) (gs : List Spread) → IsStrictlySortedBy hop_cmp hs → IsStrictlySortedBy spread_cmp gs → IsStrictlySortedBy (target_cmp {w = w}) (targets_of {w = w} hs gs)
   unfolding IsStrictlySortedBy
   targets_ascend [] gs hops_up up = groups_ascend gs up
   targets_ascend (h ∷ hs) gs hops_up up = (after_hop h hs gs hops_up.0, targets_ascend hs gs hops_up.1 up)
@@ -105,10 +106,10 @@ module _ (w : ℕ) where
   live_ascends rows =
       targets_ascend (live_hops (values_of rows)) (live_groups (values_of rows))
       (sorted-distinct hop_cmp hop_total (hops_of (values_of rows)))
-      (sorted-distinct paths_cmp paths_total (filter is_group (values_of rows)))
+      (sorted-distinct spread_cmp spread_total (filter is_group (values_of rows)))
 
   -- what holds of each nexthop and of each group holds of the targets
-  all_targets : (P : Target w → Type 0) (hs : List Hop) (gs : List (List WeightedHop)) → ((h : Hop) → P (One h)) → All (λ ps. P (Many ps)) gs → All P (targets_of {w = w} hs gs)
+  all_targets : (P : Target w → Type 0) (hs : List Hop) (gs : List Spread) → ((h : Hop) → P (One h)) → All (λ ps. P (Many ps)) gs → All P (targets_of {w = w} hs gs)
   all_targets P [] [] each all = All-nil P
   all_targets P [] (g ∷ gs) each all =
       All-cons P (Many g) (manies {w = w} gs) (All-head (λ ps. P (Many ps)) g gs all) (all_targets P [] gs each (All-tail (λ ps. P (Many ps)) g gs all))
@@ -119,13 +120,13 @@ module _ (w : ℕ) where
       all_targets IsTarget (live_hops (values_of rows)) (live_groups (values_of rows)) (λ h. tt)
       (All-weaker (Passes (live_groups (values_of rows))) IsGroup (λ ps pass. several ps pass) (live_groups (values_of rows)) (all_pass (live_groups (values_of rows))))
     where
-      several : (ps : List WeightedHop) → Passes (live_groups (values_of rows)) ps → IsGroup ps
+      several : (ps : Spread) → Passes (live_groups (values_of rows)) ps → IsGroup ps
       several ps pass = elim (cases_Bool (is_group ps)) [
-        | inl e ↦ group_length ps e
+        | inl e ↦ group_length ps.paths e
         | inr n ↦ absurd (any-never is_group (values_of rows) (in_table (values_of rows) ps pass (λ qs. not (is_group qs)) (ap not n)))
       ]
 
-  any-targets : (t : Target w) (hs : List Hop) (gs : List (List WeightedHop))
+  any-targets : (t : Target w) (hs : List Hop) (gs : List Spread)
       → list_any (is_at (target_cmp t)) (targets_of {w = w} hs gs) ≡ (list_any (λ h. is_at (target_cmp t) (One h)) hs || list_any (λ ps. is_at (target_cmp t) (Many ps)) gs)
   any-targets t hs gs =
       list_any-append (is_at (target_cmp t)) (ones {w = w} hs) (manies {w = w} gs)
@@ -133,7 +134,7 @@ module _ (w : ℕ) where
       ∙ ap (λ b. list_any (λ h. is_at (target_cmp t) (One h)) hs || b) (any-map {Y = Target w} (is_at (target_cmp t)) (λ ps. Many ps) gs)
 
   -- a nexthop of one of the lists is live
-  hop_live : (lists : List (List WeightedHop)) (h : Hop) → list_any (λ ps. list_any (is_at (hop_cmp h)) (hops ps)) lists ≡ true → Contains (targets_of {w = w} (live_hops lists) (live_groups lists)) (One h)
+  hop_live : (lists : List Spread) (h : Hop) → list_any (λ ps. list_any (is_at (hop_cmp h)) (hops ps)) lists ≡ true → Contains (targets_of {w = w} (live_hops lists) (live_groups lists)) (One h)
   hop_live lists h e =
       Contains-from_any one_target (One h) (targets_of {w = w} (live_hops lists) (live_groups lists))
       (any-targets (One h) (live_hops lists) (live_groups lists)
@@ -145,7 +146,7 @@ module _ (w : ℕ) where
       all_targets (HasHops (live {w = w} rows)) (live_hops (values_of rows)) (live_groups (values_of rows)) (λ h. tt)
       (All-weaker (Passes (live_groups (values_of rows))) (λ ps. HasHops (live {w = w} rows) (Many ps)) (λ ps pass. has ps pass) (live_groups (values_of rows)) (all_pass (live_groups (values_of rows))))
     where
-      has : (ps : List WeightedHop) → Passes (live_groups (values_of rows)) ps → All (λ h. Contains (live {w = w} rows) (One h)) (hops ps)
+      has : (ps : Spread) → Passes (live_groups (values_of rows)) ps → All (λ h. Contains (live {w = w} rows) (One h)) (hops ps)
       has ps pass =
           All-weaker (Passes (hops ps)) (λ h. Contains (live {w = w} rows) (One h))
           (λ h mine. hop_live (values_of rows) h
@@ -153,25 +154,29 @@ module _ (w : ℕ) where
           (in_table (values_of rows) ps pass (λ qs. list_any (is_at (hop_cmp h)) (hops qs)) (mine (is_at (hop_cmp h)) (ap is_eq (tied_itself hop_total h))))))
           (hops ps) (all_pass (hops ps))
 
-  leads : (lists : List (List WeightedHop)) (ps : List WeightedHop) → IsPathList ps → Passes lists ps → Contains (targets_of {w = w} (live_hops lists) (live_groups lists)) (target_of {w = w} ps)
-  leads lists [] list pass = absurd (omega (arith, list.some))
-  leads lists (p ∷ []) list pass =
-      hop_live lists p.nexthop (pass (λ ps. list_any (is_at (hop_cmp p.nexthop)) (hops ps)) (or_left (is_at (hop_cmp p.nexthop) p.nexthop) false (ap is_eq (tied_itself hop_total p.nexthop))))
-  leads lists (p ∷ q ∷ ps) list pass =
-      Contains-from_any one_target (Many (p ∷ q ∷ ps)) (targets_of {w = w} (live_hops lists) (live_groups lists))
-      (any-targets (Many (p ∷ q ∷ ps)) (live_hops lists) (live_groups lists)
-      ∙ or_right (list_any (λ h. is_at (target_cmp {w = w} (Many (p ∷ q ∷ ps))) (One h)) (live_hops lists)) (list_any (is_at (paths_cmp (p ∷ q ∷ ps))) (live_groups lists))
-      (any-distinct paths_cmp paths_total paths_exact (is_at (paths_cmp (p ∷ q ∷ ps))) (filter is_group lists)
-      ∙ any-filter (is_at (paths_cmp (p ∷ q ∷ ps))) is_group lists
-      ∙ pass (λ rs. is_group rs && is_at (paths_cmp (p ∷ q ∷ ps)) rs) (ap is_eq (tied_itself paths_total (p ∷ q ∷ ps)))))
+  leads : (lists : List Spread) (s : Spread) → IsPathList s.paths → Passes lists s → Contains (targets_of {w = w} (live_hops lists) (live_groups lists)) (target_of {w = w} s)
+  leads lists s is pass = go s.paths refl is
+    where
+      go : (ps : PathList) → ps ≡ s.paths → IsPathList ps → Contains (targets_of {w = w} (live_hops lists) (live_groups lists)) (target_in {w = w} s ps)
+      go [] e is = absurd (omega (arith, is.some))
+      go (p ∷ []) e is =
+          hop_live lists p.nexthop (pass (λ t. list_any (is_at (hop_cmp p.nexthop)) (hops t))
+          (subst (λ qs. list_any (is_at (hop_cmp p.nexthop)) (list.hops qs) ≡ true) e (or_left (is_at (hop_cmp p.nexthop) p.nexthop) false (ap is_eq (tied_itself hop_total p.nexthop)))))
+      go (p ∷ q ∷ ps) e is =
+          Contains-from_any one_target (Many s) (targets_of {w = w} (live_hops lists) (live_groups lists))
+          (any-targets (Many s) (live_hops lists) (live_groups lists)
+          ∙ or_right (list_any (λ h. is_at (target_cmp {w = w} (Many s)) (One h)) (live_hops lists)) (list_any (is_at (spread_cmp s)) (live_groups lists))
+          (any-distinct spread_cmp spread_total spread_exact (is_at (spread_cmp s)) (filter is_group lists)
+          ∙ any-filter (is_at (spread_cmp s)) is_group lists
+          ∙ pass (λ r. is_group r && is_at (spread_cmp s) r) (subst (λ qs. (are_several qs && is_at (spread_cmp s) s) ≡ true) e (ap is_eq (tied_itself spread_total s)))))
 
   -- what each route leads to is live
-  pub rows_lead : (rows : Table) → All IsPathList (values_of rows) → LeadToLive (live {w = w} rows) rows
+  pub rows_lead : (rows : Table) → All (λ s. IsPathList s.paths) (values_of rows) → LeadToLive (live {w = w} rows) rows
   rows_lead rows lists = go (values_of rows) lists (all_pass (values_of rows))
     where
-      go : (some : List (List WeightedHop)) → All IsPathList some → All (Passes (values_of rows)) some → All (λ paths. Contains (live {w = w} rows) (target_of {w = w} paths)) some
+      go : (some : List Spread) → All (λ s. IsPathList s.paths) some → All (Passes (values_of rows)) some → All (λ paths. Contains (live {w = w} rows) (target_of {w = w} paths)) some
       go [] h k = All-nil (λ paths. Contains (live {w = w} rows) (target_of {w = w} paths))
-      go (ps ∷ some) h k =
-          All-cons (λ paths. Contains (live {w = w} rows) (target_of {w = w} paths)) ps some
-          (leads (values_of rows) ps (All-head IsPathList ps some h) (All-head (Passes (values_of rows)) ps some k))
-          (go some (All-tail IsPathList ps some h) (All-tail (Passes (values_of rows)) ps some k))
+      go (s ∷ some) h k =
+          All-cons (λ paths. Contains (live {w = w} rows) (target_of {w = w} paths)) s some
+          (leads (values_of rows) s (All-head (λ t. IsPathList t.paths) s some h) (All-head (Passes (values_of rows)) s some k))
+          (go some (All-tail (λ t. IsPathList t.paths) s some h) (All-tail (Passes (values_of rows)) s some k))

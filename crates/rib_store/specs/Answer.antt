@@ -2,7 +2,7 @@
 use Rattle.std.specs.Prelude.{ℕ, Option, option_and_then}
 use Rattle.prefix_width.specs.Nexthop.{Hop}
 use Rattle.prefix_width.specs.Longest.{longest}
-use Rattle.nhgrp_slots.specs.Slots.{pick}
+use Rattle.nhgrp_slots.specs.Spread.{pick}
 use Rattle.rib_store.specs.Table.{Table}
 
 -- the nexthop of a flow: of the longest row that contains the address, the path in the flow's slot. None where no row

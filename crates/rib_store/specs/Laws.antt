@@ -2,7 +2,7 @@
 use Rattle.std.specs.Prelude.{◌≡◌, ℕ, ◌-◌, ◌≤◌, length, All, Some, slice_get}
 use Rattle.std.specs.Map.{values_of}
 use Rattle.prefix_width.specs.Nexthop.{Hop}
-use Rattle.nhgrp_slots.specs.Slots.{HaveWeights}
+use Rattle.nhgrp_slots.specs.Spread.{IsSpread}
 use Rattle.rib_store.specs.declared.command.Command.{Command}
 use Rattle.rib_store.specs.Plan.{Planned, named, firsts, number_of}
 use Rattle.rib_store.specs.Table.{Table, IsTable, live_count, apply, table_after}
@@ -28,7 +28,8 @@ LiveTargetsAreCounted w = (rows : Table) → length (live {w = w} rows) ≡ live
 -- on a table within both limits `apply` is what the command does, with both limits tried behind it
 abbrev pub LimitsAreTried : ℕ → Type 0
 LimitsAreTried w =
-    (live : ℕ) (rows : Table) (command : Command w) → IsWithin live rows → apply live rows command ≡ tried live rows command
+    (profile live : ℕ) (rows : Table) (command : Command w) → IsWithin live rows
+    → apply profile live rows command ≡ tried profile live rows command
 
 -- every table of a plan is within both limits
 abbrev pub TablesAreWithin : ℕ → Type 0
@@ -38,8 +39,8 @@ TablesAreWithin w = (live : ℕ) (plan : Planned w) (c : ℕ) → IsWithin live 
 abbrev pub TablesAreInOrder : ℕ → Type 0
 TablesAreInOrder w = (live : ℕ) (plan : Planned w) (c : ℕ) → IsTable (table_after live plan c)
 
--- the paths of every row of every table of a plan have weights that their kinds may have
-abbrev pub TablesHaveWeights : ℕ → Type 0
-TablesHaveWeights w =
+-- the paths of every row of every table of a plan have weights that their kinds may have, and a layout of their own
+abbrev pub TablesAreSpread : ℕ → Type 0
+TablesAreSpread w =
     (live : ℕ) (plan : Planned w) (c : ℕ) → All IsWeighted plan.commands
-    → All HaveWeights (values_of (table_after live plan c))
+    → All IsSpread (values_of (table_after live plan c))

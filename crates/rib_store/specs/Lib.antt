@@ -4,6 +4,7 @@ pub mod Limits
 pub mod Live
 pub mod Memory
 pub mod Plan
+pub mod Profile
 pub mod Table
 pub mod Targets
 pub mod Tried

@@ -11,11 +11,21 @@ use Rattle.prefix_width.specs.declared.module.Setting.TheVariants.{Fixed}
 use Rattle.rib_store.specs.declared.command.Command.{Command}
 use Rattle.rib_store.specs.declared.command.Command.TheVariants.{Add, Change, Algo}
 use Rattle.rib_store.specs.Limits.{plan_max}
+use Rattle.rib_store.specs.Profile.{IsProfile}
 use Rattle.rib_store.specs.Weights.{IsWeighted}
 
 -- what a plan is seen as
 pub record Planned (w : ℕ) : Type 0 where
+  pub profile : ℕ
   pub commands : List (Command w)
+
+-- the empty plan of a profile
+abbrev pub no_plan : {w : _} → ℕ → Planned w
+no_plan profile = record { profile = profile; commands = [] }
+
+-- the plan under another profile
+abbrev pub plan_under : {w : _} → ℕ → Planned w → Planned w
+plan_under profile plan = record plan { profile = profile }
 
 -- the plan of the first c commands
 abbrev pub plan_until : {w : _} → ℕ → Planned w → Planned w
@@ -72,6 +82,7 @@ IsNumbering hops numbers = (h : Hop) → lookup (is_at (hop_cmp h)) numbers ≡ 
 
 -- a plan, the nexthops that its commands name, and the map of their numbers
 pub record IsPlan {w : ℕ} (plan : Planned w) (hops : List Hop) (numbers : List (Hop × ℕ)) : Type 0 where
+  pub profile : IsProfile plan.profile
   pub most : length plan.commands ≤ plan_max
   pub modules : All (λ command. ¬ (IsWrongModule command)) plan.commands
   pub weights : All IsWeighted plan.commands

@@ -1,32 +1,27 @@
 -- The live targets of a table: what its routes lead to.
-use Rattle.std.specs.Prelude.{List, [], ◌∷◌, ◌++◌, map, All, Contains}
+use Rattle.std.specs.Prelude.{List, ◌++◌, map, All, Contains}
 use Rattle.std.specs.Map.{values_of}
 use Rattle.prefix_width.specs.Nexthop.{Hop}
-use Rattle.nhgrp_slots.specs.PathList.{PathList, hops}
+use Rattle.nhgrp_slots.specs.Spread.{Spread, hops}
+use Rattle.nhgrp_slots.specs.Target.{target_of}
 use Rattle.nhgrp_slots.specs.declared.target.Target.{Target}
 use Rattle.nhgrp_slots.specs.declared.target.Target.TheVariants.{One, Many}
 use Rattle.rib_store.specs.Live.{live_hops, live_groups}
 use Rattle.rib_store.specs.Table.{Table}
-
--- what the paths of a route lead to: their one nexthop, or all of them
-abbrev pub target_of : {w : _} → PathList → Target w
-target_of [] = Many []
-target_of (p ∷ []) = One p.nexthop
-target_of (p ∷ q ∷ ps) = Many (p ∷ q ∷ ps)
 
 -- nexthops as targets
 abbrev pub ones : {w : _} → List Hop → List (Target w)
 ones {w} nexthops = map {B = Target w} (λ h. One h) nexthops
 
 -- groups as targets
-abbrev pub manies : {w : _} → List PathList → List (Target w)
+abbrev pub manies : {w : _} → List Spread → List (Target w)
 manies {w} groups = map {B = Target w} (λ paths. Many paths) groups
 
 -- nexthops, then groups
-abbrev pub targets_of : {w : _} → List Hop → List PathList → List (Target w)
+abbrev pub targets_of : {w : _} → List Hop → List Spread → List (Target w)
 targets_of {w} nexthops groups = ones {w = w} nexthops ++ manies {w = w} groups
 
--- the live targets in target order: the distinct nexthops of all paths, then the distinct lists of two paths or more
+-- the live targets in target order: the distinct nexthops of all paths, then the distinct groups
 abbrev pub live : {w : _} → Table → List (Target w)
 live {w} rows = targets_of {w = w} (live_hops (values_of rows)) (live_groups (values_of rows))
 

@@ -1,4 +1,4 @@
-ghost use Rattle.rib_store.specs.Laws.{LimitsAreTried, LiveTargetsAreCounted, NumbersDiffer, NumbersLeadBack, TablesAreInOrder, TablesAreWithin, TablesHaveWeights};
+ghost use Rattle.rib_store.specs.Laws.{LimitsAreTried, LiveTargetsAreCounted, NumbersDiffer, NumbersLeadBack, TablesAreInOrder, TablesAreWithin, TablesAreSpread};
 
 /// Law: the nexthop of a nexthop's number in a plan is that nexthop.
 pub fn law_numbers_lead_back<const W: u32>()
@@ -26,9 +26,10 @@ pub fn law_tables_are_in_order<const W: u32>()
     ensures { TablesAreInOrder W }
 {}
 
-/// Law: the paths of every row of every table of a plan have weights that their kinds may have.
-pub fn law_tables_have_weights<const W: u32>()
-    ensures { TablesHaveWeights W }
+/// Law: the paths of every row of every table of a plan have weights that their kinds may have, and
+/// a layout of their own.
+pub fn law_tables_are_spread<const W: u32>()
+    ensures { TablesAreSpread W }
 {}
 
 /// Law: every table of a plan is within both limits, whatever the limit of live targets is.

@@ -12,15 +12,17 @@ mod laws;
 mod links;
 mod plan;
 mod rib;
+mod routes;
 mod rows;
 
 pub use command::{Command, Refusal, Reply};
 pub use laws::{
     law_limits_are_tried, law_live_targets_are_counted, law_numbers_differ, law_numbers_lead_back,
-    law_tables_are_in_order, law_tables_are_within, law_tables_have_weights,
+    law_tables_are_in_order, law_tables_are_spread, law_tables_are_within,
 };
 pub use plan::{PLAN_MAX, Plan, PushError};
-pub use rib::{ROUTES_MAX, Rib};
+pub use rib::Rib;
+pub use routes::ROUTES_MAX;
 pub use rows::Rows;
 pub use std::alloc::AllocError as OutOfMemory;
 

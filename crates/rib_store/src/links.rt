@@ -38,9 +38,9 @@ impl<const W: u32> Links<W> {
     ghost use Rattle.rib_store.specs.Targets.{targets_of};
     ghost use Rattle.counted_map.specs.Counts.{count_of, linked_all, unlinked_all};
     ghost use Rattle.prefix_width.specs.Order.{hop_cmp};
-    ghost use Rattle.nhgrp_slots.specs.Order.{paths_cmp};
+    ghost use Rattle.nhgrp_slots.specs.Order.{spread_cmp};
     ghost use Rattle.rib_store.specs.Uses.{Uses, AreCounts, HasPaths, HasRoom, with_paths, without_paths, without_old, HasOld, live_in, grown, shrunk};
-    ghost use Rattle.rib_store.specs.Live.{is_group};
+    ghost use Rattle.nhgrp_slots.specs.Spread.{is_group};
 
     /// No route is counted.
     pub fn new(alloc: Global) -> Links<W>
@@ -63,7 +63,7 @@ impl<const W: u32> Links<W> {
 
     /// Whether the nexthops gain a use with a route of these paths.
     fn gains(&self, paths: &Paths<W>) -> bool
-        ensures { result ≡ not (is_group paths.now && not (count_of paths_cmp self.now.groups paths.now == 0)) }
+        ensures { result ≡ not (is_group paths.now && not (count_of spread_cmp self.now.groups paths.now == 0)) }
     {
         paths.len() < 2 || self.groups.count(paths) == 0
     }
@@ -71,7 +71,7 @@ impl<const W: u32> Links<W> {
     /// The nexthop's count with a route of these paths, by whether nexthops gain a use with it.
     fn count_with(&self, nexthop: &Nexthop<W>, paths: &Paths<W>, gains: bool) -> u32
         requires count { count_of hop_cmp self.now.nhops nexthop.now < 1000000 }
-        requires gains { gains ≡ not (is_group paths.now && not (count_of paths_cmp self.now.groups paths.now == 0)) }
+        requires gains { gains ≡ not (is_group paths.now && not (count_of spread_cmp self.now.groups paths.now == 0)) }
         ensures { result ≡ count_of hop_cmp (with_paths self.now paths.now).nhops nexthop.now }
     {
         let count = self.nhops.count(nexthop);
@@ -88,8 +88,8 @@ impl<const W: u32> Links<W> {
 
     /// The group's count with a route of these paths.
     fn group_count_with(&self, group: &Paths<W>, paths: &Paths<W>) -> u32
-        requires { count_of paths_cmp self.now.groups group.now < 1000000 }
-        ensures { result ≡ count_of paths_cmp (with_paths self.now paths.now).groups group.now }
+        requires { count_of spread_cmp self.now.groups group.now < 1000000 }
+        ensures { result ≡ count_of spread_cmp (with_paths self.now paths.now).groups group.now }
     {
         let count = self.groups.count(group);
         if paths.len() < 2 {

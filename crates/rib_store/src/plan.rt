@@ -1,7 +1,8 @@
 //! The commands of a family.
 ghost use Rattle.std.specs.Prelude.{◌≡◌, ◌-◌, ◌<◌, ◌≤◌, ◌↔◌, All, OnOk, OnErr, IsErrOf, IsSome, Contains, [], length, slice_get, Some};
 ghost use Rattle.rib_store.specs.Limits.{plan_max};
-ghost use Rattle.rib_store.specs.Plan.{IsWrongModule, IsNumbering, named, firsts, number_of, plan_with, with_first};
+ghost use Rattle.rib_store.specs.Plan.{IsWrongModule, IsNumbering, named, firsts, no_plan, number_of, plan_under, plan_with, with_first};
+ghost use Rattle.rib_store.specs.Profile.{IsProfile};
 ghost use Rattle.rib_store.specs.Weights.{IsWeighted};
 
 use crate::OutOfMemory;
@@ -57,6 +58,7 @@ impl From<AllocError> for PushError {
 /// appearance.
 #[derive(Debug, Drop)]
 pub struct Plan<const W: u32> {
+    profile: u8,
     commands: Vec<Command<W>>,
     // The nexthop of number n stands at n - 1.
     nexthops: Vec<Nexthop<W>>,
@@ -68,21 +70,47 @@ impl<const W: u32> Model for Plan<W> {
 
     ghost Value = { Planned W };
 
-    ghost view = { λ p. record { commands = p.commands.items } };
+    ghost view = { λ p. record { profile = p.profile; commands = p.commands.items } };
 
-    ghost invariant = { λ p. IsPlan (record { commands = p.commands.items }) p.nexthops.items p.numbers.entries };
+    ghost invariant = { λ p. IsPlan (record { profile = p.profile; commands = p.commands.items }) p.nexthops.items p.numbers.entries };
 }
 
 impl<const W: u32> Plan<W> {
-    /// The empty plan.
+    /// The empty plan of profile 1.
     pub fn new(alloc: Global) -> Plan<W>
-        ensures { result ≡ record { commands = [] } }
+        ensures { result ≡ no_plan 1 }
+    {
+        Plan::with_profile(alloc, 1)
+    }
+
+    /// The empty plan of a profile: of 1, where a group that a path leaves gets a new layout, or of
+    /// 2, where the paths that are left keep their slots.
+    pub fn with_profile(alloc: Global, profile: u8) -> Plan<W>
+        requires { IsProfile profile }
+        ensures { result ≡ no_plan profile }
     {
         Plan {
+            profile,
             commands: Vec::new(alloc),
             nexthops: Vec::new(alloc),
             numbers: BTreeMap::new(alloc),
         }
+    }
+
+    /// The profile, 1 or 2.
+    pub fn profile(&self) -> u8
+        ensures value { result ≡ self.now.profile }
+        ensures range { IsProfile result }
+    {
+        self.profile
+    }
+
+    /// Gives the plan another profile, 1 or 2. The commands stay.
+    pub fn set_profile(&mut self, profile: u8)
+        requires { IsProfile profile }
+        ensures { self.new ≡ plan_under profile self.old }
+    {
+        self.profile = profile;
     }
 
     /// Puts a command behind the others. After an error the plan is as before.

@@ -66,6 +66,18 @@ fn nexthops_are_numbered_by_first_appearance(rt: HostRuntime) -> Result<(), Fail
 }
 
 #[test]
+fn a_plan_has_a_profile(rt: HostRuntime) -> Result<(), Fail> {
+    let alloc = rt.alloc();
+    assert_eq!(rt; Plan::<32>::new(alloc).profile(), 1);
+    let mut plan = Plan::<32>::with_profile(alloc, 2);
+    plan.push(Command::Sync)?;
+    assert_eq!(rt; (plan.profile(), plan.len()), (2, 1));
+    plan.set_profile(1);
+    assert_eq!(rt; (plan.profile(), plan.len()), (1, 1));
+    Ok(())
+}
+
+#[test]
 fn dxr_is_for_32_bits_alone(rt: HostRuntime) -> Result<(), Fail> {
     let setting = Setting::Fixed(Kind::Dxr);
     let mut inet = Plan::<32>::new(rt.alloc());

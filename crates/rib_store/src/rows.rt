@@ -61,7 +61,7 @@ impl<const W: u32> Rows<W> {
 impl<const W: u32, const LIVE: u32> Rib<W, LIVE> {
     /// A copy of the rows.
     pub fn rows(&self, alloc: Global) -> Result<Rows<W>, OutOfMemory>
-        ensures { IfOk result (λ rows. rows ≡ self.now) }
+        ensures { IfOk result (λ rows. rows ≡ self.now.rows) }
     {
         let _few = self.len();
         let mut rows = Vec::new(alloc);

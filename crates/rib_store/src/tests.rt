@@ -2,6 +2,7 @@
 use crate::{Command, Refusal, Reply, Rib, Rows};
 use nhgrp_slots::Target;
 use prefix_width::{Addr, Nexthop, Path, Prefix};
+use std::alloc::Global;
 use std::test::Fail;
 
 /// 10.0.0.0 and 192.0.0.0.
@@ -193,6 +194,47 @@ fn a_table_has_as_many_live_targets_as_it_says(rt: HostRuntime) -> Result<(), Fa
         assert_eq!(rt; most.apply(alloc, &command)?, want, "at {host}");
     }
     assert_eq!(rt; most.targets(alloc)?.len(), 4095);
+    Ok(())
+}
+
+/// The nexthops of four flows to a group that a path has left, and how many targets are live beside
+/// a group of the same paths that none has left.
+fn left_group(
+    alloc: Global,
+    rib: &mut Rib<32, 4095>,
+) -> Result<([Option<Nexthop<32>>; 4], usize), Fail> {
+    for command in [
+        add(TEN, 8, 1, 1),
+        add(TEN, 8, 2, 1),
+        add(TEN, 8, 3, 2),
+        add(0x0b00_0000, 8, 2, 1),
+        add(0x0b00_0000, 8, 3, 2),
+        delete(Some(NET | 1)),
+    ] {
+        rib.apply(alloc, &command.ok_or("no command")?)?;
+    }
+    let rows = rib.rows(alloc)?;
+    let addr = Addr::new(TEN).ok_or("no address")?;
+    let mut hops = [None; 4];
+    for (flow, hop) in hops.iter_mut().enumerate() {
+        *hop = rows.answer(&addr, flow as u32);
+    }
+    Ok((hops, rib.targets(alloc)?.len()))
+}
+
+#[test]
+fn slots_of_paths_that_stay_are_kept_in_profile_2(rt: HostRuntime) -> Result<(), Fail> {
+    let alloc = rt.alloc();
+    let mut plain = Rib::<32, 4095>::with_profile(alloc, 1);
+    assert_eq!(rt; plain.profile(), 1);
+    let (hops, targets) = left_group(alloc, &mut plain)?;
+    assert_eq!(rt; hops, [nexthop(2), nexthop(3), nexthop(3), nexthop(2)]);
+    assert_eq!(rt; targets, 3);
+    let mut resilient = Rib::<32, 4095>::with_profile(alloc, 2);
+    assert_eq!(rt; resilient.profile(), 2);
+    let (hops, targets) = left_group(alloc, &mut resilient)?;
+    assert_eq!(rt; hops, [nexthop(2), nexthop(2), nexthop(3), nexthop(3)]);
+    assert_eq!(rt; targets, 4);
     Ok(())
 }
 

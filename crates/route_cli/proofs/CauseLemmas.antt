@@ -49,6 +49,7 @@ of_line task left rest line reason.BadAddress h r = r
 of_line task left rest line reason.BadLength h r = r
 of_line task left rest line reason.NoTarget h r = r
 of_line task left rest line reason.NoModule h r = r
+of_line task left rest line reason.NotFirst h r = r
 
 -- bytes within the limit are refused for a reason of their line
 pub refused : (task : Task) (left rest : Option (List ℕ)) (bytes : List ℕ) (at : ℕ) (why : Reason) → ReadsIf (is_reader task) left rest bytes → HaveFault task bytes (record { line = at; reason = why })

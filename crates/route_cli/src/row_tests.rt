@@ -197,7 +197,59 @@ fib inet6 version 0 routes 0 algo range
 ",
 );
 
-const WHOLE: [(&str, &str); 9] = [
+const RESILIENT_DELETE: (&str, &str) = (
+    "\
+profile 2
+add 10.0.0.0/8 192.0.2.1
+add 10.0.0.0/8 192.0.2.2
+add 10.0.0.0/8 192.0.2.3 -weight 2
+get 10.0.0.1 flow 3
+delete 10.0.0.0/8 192.0.2.1
+get 10.0.0.1
+get 10.0.0.1 flow 3
+",
+    "\
+2 added
+3 joined
+4 joined
+5 10.0.0.1 version 3 via 192.0.2.3 if 0 mtu 0
+6 deleted
+7 10.0.0.1 version 4 via 192.0.2.2 if 0 mtu 0
+8 10.0.0.1 version 4 via 192.0.2.3 if 0 mtu 0
+packets inet 1 via 192.0.2.2 if 0 mtu 0
+packets inet 2 via 192.0.2.3 if 0 mtu 0
+fib inet version 4 routes 1 algo range
+fib inet6 version 0 routes 0 algo range
+",
+);
+
+const PLAIN_DELETE: (&str, &str) = (
+    "\
+profile 1
+add 10.0.0.0/8 192.0.2.1
+add 10.0.0.0/8 192.0.2.2
+add 10.0.0.0/8 192.0.2.3 -weight 2
+get 10.0.0.1 flow 3
+delete 10.0.0.0/8 192.0.2.1
+get 10.0.0.1
+get 10.0.0.1 flow 3
+",
+    "\
+2 added
+3 joined
+4 joined
+5 10.0.0.1 version 3 via 192.0.2.3 if 0 mtu 0
+6 deleted
+7 10.0.0.1 version 4 via 192.0.2.2 if 0 mtu 0
+8 10.0.0.1 version 4 via 192.0.2.2 if 0 mtu 0
+packets inet 2 via 192.0.2.2 if 0 mtu 0
+packets inet 1 via 192.0.2.3 if 0 mtu 0
+fib inet version 4 routes 1 algo range
+fib inet6 version 0 routes 0 algo range
+",
+);
+
+const WHOLE: [(&str, &str); 11] = [
     FIRST_PATH,
     FLUSH_AFTER_ADD,
     TYPE_ENDS,
@@ -207,6 +259,8 @@ const WHOLE: [(&str, &str); 9] = [
     EXISTS_AND_NOT_FOUND,
     WEIGHTED_GROUP_EXTREME,
     GATEWAY_ZERO,
+    RESILIENT_DELETE,
+    PLAIN_DELETE,
 ];
 
 // A comment of 255 bytes, and one of 256.
@@ -231,7 +285,7 @@ const CHECKED: [(&str, &str); 2] = [
 ];
 
 // Scripts with the first line that is refused, and why.
-const REFUSED: [(&str, u32, Reason); 14] = [
+const REFUSED: [(&str, u32, Reason); 15] = [
     (
         "add 10.0.0.0/8 192.0.2.1\ntick 5\nadd 10.0.0.0/33 192.0.2.1\nsync\nadd\n",
         3,
@@ -253,6 +307,7 @@ const REFUSED: [(&str, u32, Reason); 14] = [
     ("add -foo\n", 1, Reason::UnknownOption),
     ("del 10.0.0.0/8\n", 1, Reason::UnknownCommand),
     ("sync \x01\n", 1, Reason::BadByte),
+    ("sync\nprofile 2\n", 2, Reason::NotFirst),
     (
         "sync\nadd default -blackhole\nget ::1\n",
         3,

@@ -77,7 +77,8 @@ fn read_task(alloc: Global, words: &[String]) -> Result<Task, OutOfMemory>
 }
 
 /// Does a job that waits for nobody: reads the source to its end, unless the job reads nothing, and
-/// writes the text that it makes of the bytes to the sink. It always returns.
+/// writes the text that it makes of the bytes to the sink. It always returns. A generator makes 1
+/// to 1,048,576 lines.
 pub fn plain<S: Source, K: Sink>(alloc: Global, job: Job, source: &mut S, sink: &mut K) -> Status
     requires { FitsJob job }
     ensures no_usage { result ≢ Status.Usage }

@@ -1,6 +1,6 @@
 -- What the reader makes of what was met is what the grammar says of the parts that tell it, and so of each line.
 use Rattle.std.proofs.Common.{◌≡◌, ◌∙◌, ℕ, Bool, true, false, cond, nat_lt, List, [], ◌∷◌, Option, Some, None, Result, Ok, Err, length, codes, bytes_eq, refl, sym, ap}
-use Rattle.std.specs.Prelude.{is_some}
+use Rattle.std.specs.Prelude.{is_some, unwrap_or}
 use Rattle.std.specs.List.{find, list_all, slice_get}
 use Rattle.prefix_width.specs.Prefix.{Block}
 use Rattle.prefix_width.specs.Path.{WeightedHop}
@@ -9,15 +9,15 @@ use Rattle.addr_text.specs.Number.{number_of}
 use Rattle.addr_text.specs.PrefixText.{block_of}
 use Rattle.rib_store.specs.declared.command.Command.{Command}
 use Rattle.rib_store.specs.declared.command.Command.TheVariants as command
-use Rattle.route_lang.specs.Reader.Asked.{agrees, agreeing, destination_of, gateway_of, address_asked, path_by, path_of, path_asked, add_of, change_of, delete_of, algo_of, is_inet6, tick_of, get_of, in_family, flush_of, asked_by, by_verb, by_command, by_words, asked_of, requested}
-use Rattle.route_lang.specs.Grammar.{◌>>=◌, or_reason, OptionRow, Part, parts_of, bare_words, told, is_by, number_by, value_or, faults_behind, extent_agrees, with_extent, destination_in, gateway_by, gateway_in, path_by_told, path_in, is_of_inet6, of_family, added, changed, deleted, setting_of, module_set, address_in, looked_up, flushed, ticked, CommandRow, command_rows, is_taken, is_comment, from_command, unless_faulty, row_asks, command_asks, words_ask, asked_for}
+use Rattle.route_lang.specs.Reader.Asked.{agrees, agreeing, destination_of, gateway_of, address_asked, path_by, path_of, path_asked, add_of, change_of, delete_of, algo_of, is_inet6, tick_of, get_of, profile_named, profile_asked, in_family, flush_of, asked_by, by_verb, by_command, by_words, asked_of, requested}
+use Rattle.route_lang.specs.Grammar.{◌>>=◌, or_reason, OptionRow, Part, parts_of, bare_words, told, is_by, number_by, faults_behind, extent_agrees, with_extent, destination_in, gateway_by, gateway_in, path_by_told, path_in, is_of_inet6, of_family, routed, deleted, setting_of, module_set, address_in, looked_up, flushed, ticked, profiled, CommandRow, command_rows, is_taken, is_comment, from_command, unless_faulty, row_asks, command_asks, words_ask, asked_for}
 use Rattle.route_lang.specs.Limits.{lines_limit, line_limit}
-use Rattle.route_lang.specs.Request.{Request, OfInet, OfInet6, OfBoth, LookUp, LookUp6, Flush, Tick}
+use Rattle.route_lang.specs.Request.{Request, OfInet, OfInet6, OfBoth, LookUp, LookUp6, OfProfile, Flush, Tick}
 use Rattle.route_lang.specs.Text.{words_of}
 use Rattle.route_lang.specs.Reader.Verb.{verb_of}
 use Rattle.route_lang.specs.Reader.Walk.{Met, nothing_met, walk_from}
 use Rattle.route_lang.specs.declared.asked.Asked.{Asked}
-use Rattle.route_lang.specs.declared.asked.Asked.TheVariants.{Nothing, Inet, Inet6, Both, Get4, Get6}
+use Rattle.route_lang.specs.declared.asked.Asked.TheVariants.{Nothing, Inet, Inet6, Both, Get4, Get6, Profile}
 use Rattle.route_lang.specs.declared.asked.Shared.TheVariants as shared
 use Rattle.route_lang.specs.declared.fault.Reason.{Reason}
 use Rattle.route_lang.specs.declared.fault.Reason.TheVariants.{TooManyLines, LineTooLong, BadByte, UnknownCommand, MissingWord, BadNumber, BadAddress, BadLength, NoModule}
@@ -126,12 +126,12 @@ module _ (met : Met) (parts : List Part) (h : Stands met parts) where
       ∙ ap (λ mtu. path_by_told (told (codes "discard") parts) (number_by (told (codes "-if") parts)) mtu met.weight g) (number_same met.mtu (told (codes "-mtu") parts) h.mtu)
       ∙ ap (λ weight. path_by_told (told (codes "discard") parts) (number_by (told (codes "-if") parts)) (number_by (told (codes "-mtu") parts)) weight g) (number_same met.weight (told (codes "-weight") parts) h.weight))
 
-  add_same : (w : ℕ) → add_of w met ≡ added w parts
+  add_same : (w : ℕ) → add_of w met ≡ routed w command.Add parts
   add_same w =
       ap (λ (d : Result Block Reason). d >>= (λ b. path_asked w met >>= (λ p. Ok (command.Add b p)))) (destination_same w)
       ∙ ap (λ (r : Result WeightedHop Reason). destination_in w parts >>= (λ b. r >>= (λ p. Ok (command.Add b p)))) (path_asked_same w)
 
-  change_same : (w : ℕ) → change_of w met ≡ changed w parts
+  change_same : (w : ℕ) → change_of w met ≡ routed w command.Change parts
   change_same w =
       ap (λ (d : Result Block Reason). d >>= (λ b. path_asked w met >>= (λ p. Ok (command.Change b p)))) (destination_same w)
       ∙ ap (λ (r : Result WeightedHop Reason). destination_in w parts >>= (λ b. r >>= (λ p. Ok (command.Change b p)))) (path_asked_same w)
@@ -172,7 +172,7 @@ module _ (met : Met) (parts : List Part) (h : Stands met parts) where
   get_choice false (Err why) a6 flow = refl
 
   abbrev got : Bool → Result ℕ Reason → Result ℕ Reason → Option ℕ → Result (Option Request) Reason
-  got t a a6 flow = requested (cond t (a6 >>= (λ a. Ok (Get6 a (value_or 0 flow)))) (a >>= (λ a. Ok (Get4 a (value_or 0 flow)))))
+  got t a a6 flow = requested (cond t (a6 >>= (λ a. Ok (Get6 a (unwrap_or flow 0)))) (a >>= (λ a. Ok (Get4 a (unwrap_or flow 0)))))
 
   get_same : requested (get_of met) ≡ some_asked (looked_up parts)
   get_same =
@@ -180,7 +180,7 @@ module _ (met : Met) (parts : List Part) (h : Stands met parts) where
       ∙ ap (λ a. got (is_of_inet6 parts) a (address_asked 128 met) met.flow) (address_same 32)
       ∙ ap (λ a. got (is_of_inet6 parts) (address_in 32 parts) a met.flow) (address_same 128)
       ∙ ap (got (is_of_inet6 parts) (address_in 32 parts) (address_in 128 parts)) (number_same met.flow (told (codes "flow") parts) h.flow)
-      ∙ get_choice (is_of_inet6 parts) (address_in 32 parts) (address_in 128 parts) (value_or 0 (number_by (told (codes "flow") parts)))
+      ∙ get_choice (is_of_inet6 parts) (address_in 32 parts) (address_in 128 parts) (unwrap_or (number_by (told (codes "flow") parts)) 0)
 
   flush_same : requested (flush_of met.family) ≡ some_asked (flushed parts)
   flush_same = by_given met.family (told (codes "family") parts) h.family
@@ -205,15 +205,30 @@ module _ (met : Met) (parts : List Part) (h : Stands met parts) where
       by_first None = refl
       by_first (Some word) = by_number (number_of word)
 
+  profile_same : requested (profile_asked met) ≡ some_asked (profiled parts)
+  profile_same = ap (λ (first : Option (List ℕ)). requested (or_reason MissingWord first >>= profile_named)) h.first ∙ by_first (slice_get (bare_words parts) 0)
+    where
+      by_word : (one two : Bool) → requested (cond one (Ok (Profile 1)) (cond two (Ok (Profile 2)) (Err BadNumber))) ≡ some_asked (cond one (Ok (OfProfile 1)) (cond two (Ok (OfProfile 2)) (Err BadNumber)))
+      by_word true two = refl
+      by_word false true = refl
+      by_word false false = refl
+
+      by_first : (first : Option (List ℕ))
+          → requested (or_reason MissingWord first >>= profile_named)
+          ≡ some_asked (or_reason MissingWord first >>= (λ word. cond (bytes_eq word (codes "1")) (Ok (OfProfile 1)) (cond (bytes_eq word (codes "2")) (Ok (OfProfile 2)) (Err BadNumber))))
+      by_first None = refl
+      by_first (Some word) = by_word (bytes_eq word (codes "1")) (bytes_eq word (codes "2"))
+
   asked_same : (v : Verb) → requested (asked_by v met) ≡ some_asked ((command_row v).asks parts)
-  asked_same verb.Add = family_same (add_of 32 met) (added 32 parts) (add_of 128 met) (added 128 parts) (add_same 32) (add_same 128)
-  asked_same verb.Change = family_same (change_of 32 met) (changed 32 parts) (change_of 128 met) (changed 128 parts) (change_same 32) (change_same 128)
+  asked_same verb.Add = family_same (add_of 32 met) (routed 32 command.Add parts) (add_of 128 met) (routed 128 command.Add parts) (add_same 32) (add_same 128)
+  asked_same verb.Change = family_same (change_of 32 met) (routed 32 command.Change parts) (change_of 128 met) (routed 128 command.Change parts) (change_same 32) (change_same 128)
   asked_same verb.Delete = family_same (delete_of 32 met) (deleted 32 parts) (delete_of 128 met) (deleted 128 parts) (delete_same 32) (delete_same 128)
   asked_same verb.Get = get_same
   asked_same verb.Flush = flush_same
   asked_same verb.Tick = tick_same
   asked_same verb.Sync = refl
   asked_same verb.Algo = family_same (algo_of 32 met) (module_set 32 parts) (algo_of 128 met) (module_set 128 parts) (algo_same 32) (algo_same 128)
+  asked_same verb.Profile = profile_same
 
 -- ---- a line
 
@@ -236,20 +251,21 @@ RowIs None (Some row) = ⊥
 RowIs (Some v) None = ⊥
 
 row_is : (word : List ℕ) → RowIs (verb_of word) (find (λ (row : CommandRow). bytes_eq word row.word) command_rows)
-row_is word = choice (bytes_eq word (codes "add")) (bytes_eq word (codes "change")) (bytes_eq word (codes "delete")) (bytes_eq word (codes "get")) (bytes_eq word (codes "flush")) (bytes_eq word (codes "tick")) (bytes_eq word (codes "sync")) (bytes_eq word (codes "algo"))
+row_is word = choice (bytes_eq word (codes "add")) (bytes_eq word (codes "change")) (bytes_eq word (codes "delete")) (bytes_eq word (codes "get")) (bytes_eq word (codes "flush")) (bytes_eq word (codes "tick")) (bytes_eq word (codes "sync")) (bytes_eq word (codes "algo")) (bytes_eq word (codes "profile"))
   where
-    choice : (a b c d e f g h : Bool)
-        → RowIs (cond a (Some verb.Add) (cond b (Some verb.Change) (cond c (Some verb.Delete) (cond d (Some verb.Get) (cond e (Some verb.Flush) (cond f (Some verb.Tick) (cond g (Some verb.Sync) (cond h (Some verb.Algo) None))))))))
-        (cond a (Some (command_row verb.Add)) (cond b (Some (command_row verb.Change)) (cond c (Some (command_row verb.Delete)) (cond d (Some (command_row verb.Get)) (cond e (Some (command_row verb.Flush)) (cond f (Some (command_row verb.Tick)) (cond g (Some (command_row verb.Sync)) (cond h (Some (command_row verb.Algo)) None))))))))
-    choice true b c d e f g h = refl
-    choice false true c d e f g h = refl
-    choice false false true d e f g h = refl
-    choice false false false true e f g h = refl
-    choice false false false false true f g h = refl
-    choice false false false false false true g h = refl
-    choice false false false false false false true h = refl
-    choice false false false false false false false true = refl
-    choice false false false false false false false false = tt
+    choice : (a b c d e f g h i : Bool)
+        → RowIs (cond a (Some verb.Add) (cond b (Some verb.Change) (cond c (Some verb.Delete) (cond d (Some verb.Get) (cond e (Some verb.Flush) (cond f (Some verb.Tick) (cond g (Some verb.Sync) (cond h (Some verb.Algo) (cond i (Some verb.Profile) None)))))))))
+        (cond a (Some (command_row verb.Add)) (cond b (Some (command_row verb.Change)) (cond c (Some (command_row verb.Delete)) (cond d (Some (command_row verb.Get)) (cond e (Some (command_row verb.Flush)) (cond f (Some (command_row verb.Tick)) (cond g (Some (command_row verb.Sync)) (cond h (Some (command_row verb.Algo)) (cond i (Some (command_row verb.Profile)) None)))))))))
+    choice true b c d e f g h i = refl
+    choice false true c d e f g h i = refl
+    choice false false true d e f g h i = refl
+    choice false false false true e f g h i = refl
+    choice false false false false true f g h i = refl
+    choice false false false false false true g h i = refl
+    choice false false false false false false true h i = refl
+    choice false false false false false false false true i = refl
+    choice false false false false false false false false true = refl
+    choice false false false false false false false false false = tt
 
 named_same : (o : Option Verb) (row : Option CommandRow) (words : List (List ℕ)) → RowIs o row → requested (by_verb o words) ≡ some_asked (or_reason UnknownCommand row >>= row_asks words)
 named_same None None words h = refl

@@ -1,5 +1,6 @@
 -- What a line asks for is of its form: its addresses and numbers are in their ranges.
 use Rattle.std.proofs.Common.{◌≡◌, ◌==◌, ◌&&◌, ℕ, ◌^◌, ◌<◌, ◌≤◌, Bool, true, false, cond, nat_lt, nat_le, ltb-false, List, [], ◌∷◌, Option, Some, None, IfSome, option_map, option_and_then, Result, Ok, Err, IfOk, length, codes, bytes_eq, eqb-true, lit<, inl, inr, refl, arith}
+use Rattle.std.specs.Prelude.{unwrap_or}
 use Rattle.std.specs.List.{list_all}
 use Rattle.std.proofs.lemmas.Bool.{and_parts, leb-true}
 use Rattle.std.proofs.lemmas.Nat.{pow_pos}
@@ -20,16 +21,16 @@ use Rattle.route_lang.specs.Text.{words_of}
 use Rattle.route_lang.specs.Reader.Verb.{verb_of, token_of, bare_words, within_range, least_value, greatest_value}
 use Rattle.route_lang.specs.Reader.Walk.{Met, nothing_met, is_given, set_flag, set_value, with_flag, with_parsed, with_value, without_value, with_bare, put_bare, at_end, along, walk_from}
 use Rattle.route_lang.specs.Grammar.{◌>>=◌}
-use Rattle.route_lang.specs.Reader.Asked.{agrees, agreeing, destination_of, gateway_of, address_asked, path_by, path_of, path_asked, add_of, change_of, delete_of, IsModuleOf, algo_of, is_inet6, get_of, in_family, flush_of, asked_by, by_verb, by_command, by_words, asked_of}
-use Rattle.route_lang.specs.Grammar.{or_reason, gateway_by, value_or, dropping, leading, setting_of, is_taken, is_comment, from_command}
+use Rattle.route_lang.specs.Reader.Asked.{agrees, agreeing, destination_of, gateway_of, address_asked, path_by, path_of, path_asked, add_of, change_of, delete_of, IsModuleOf, algo_of, is_inet6, get_of, profile_named, in_family, flush_of, asked_by, by_verb, by_command, by_words, asked_of, is_profile, in_time}
+use Rattle.route_lang.specs.Grammar.{or_reason, gateway_by, dropping, leading, setting_of, is_taken, is_comment, from_command}
 use Rattle.route_lang.proofs.BoundLemmas.{address_fits, number_fits, family_bounds, block_fits}
 use Rattle.route_lang.proofs.SpellingLemmas.{IsPath}
 use Rattle.route_lang.proofs.CommandLemmas.{IsCommand, IsAsked}
 use Rattle.route_lang.specs.declared.asked.Asked.{Asked}
-use Rattle.route_lang.specs.declared.asked.Asked.TheVariants.{Nothing, Inet, Inet6, Both, Get4, Get6}
+use Rattle.route_lang.specs.declared.asked.Asked.TheVariants.{Nothing, Inet, Inet6, Both, Get4, Get6, Profile}
 use Rattle.route_lang.specs.declared.asked.Shared.TheVariants as shared
 use Rattle.route_lang.specs.declared.fault.Reason.{Reason}
-use Rattle.route_lang.specs.declared.fault.Reason.TheVariants.{TooManyLines, LineTooLong, BadByte, MissingWord, BadNumber, BadAddress, BadLength, NoModule, Repeated, ExtraWord}
+use Rattle.route_lang.specs.declared.fault.Reason.TheVariants.{TooManyLines, LineTooLong, BadByte, MissingWord, BadNumber, BadAddress, BadLength, NoModule, NotFirst, Repeated, ExtraWord}
 use Rattle.route_lang.specs.declared.verb.Verb.{Verb}
 use Rattle.route_lang.specs.declared.verb.Verb.TheVariants as verb
 use Rattle.route_lang.specs.declared.verb.Flag.{Flag}
@@ -180,27 +181,27 @@ module _ (w : ℕ) (width : IsFamilyWidth w) (met : Met) (are : AreInRange met) 
 
   -- ---- the path
 
-  value_most : (absent most : ℕ) (o : Option ℕ) → absent ≤ most → IfSome o (λ n. (1 ≤ n) × (n ≤ most)) → value_or absent o ≤ most
+  value_most : (absent most : ℕ) (o : Option ℕ) → absent ≤ most → IfSome o (λ n. (1 ≤ n) × (n ≤ most)) → unwrap_or o absent ≤ most
   value_most absent most None h fits = h
   value_most absent most (Some n) h fits = fits.1
 
-  value_least : (o : Option ℕ) (most : ℕ) → IfSome o (λ n. (1 ≤ n) × (n ≤ most)) → 1 ≤ value_or 1 o
+  value_least : (o : Option ℕ) (most : ℕ) → IfSome o (λ n. (1 ≤ n) × (n ≤ most)) → 1 ≤ unwrap_or o 1
   value_least None most fits = omega arith
   value_least (Some n) most fits = fits.0
 
   bounds : (1 ≤ w) × (w ≤ 128)
   bounds = family_bounds w width
 
-  mtu_fits : value_or 0 met.mtu < 2 ^ 32
+  mtu_fits : unwrap_or met.mtu 0 < 2 ^ 32
   mtu_fits = let most = value_most 0 4294967295 met.mtu (omega arith) are.1 in omega arith
 
-  weight_least : 1 ≤ value_or 1 met.weight
+  weight_least : 1 ≤ unwrap_or met.weight 1
   weight_least = value_least met.weight 16777215 are.2
 
-  weight_most : value_or 1 met.weight ≤ 16777215
+  weight_most : unwrap_or met.weight 1 ≤ 16777215
   weight_most = value_most 1 16777215 met.weight (omega arith) are.2
 
-  led_fits : (g iface : Option ℕ) → IfSome g (λ a. a < 2 ^ w) → IfSome iface (λ n. (1 ≤ n) × (n ≤ 65535)) → IfOk (leading g iface (value_or 0 met.mtu) (value_or 1 met.weight)) (IsPath w)
+  led_fits : (g iface : Option ℕ) → IfSome g (λ a. a < 2 ^ w) → IfSome iface (λ n. (1 ≤ n) × (n ≤ 65535)) → IfOk (leading g iface (unwrap_or met.mtu 0) (unwrap_or met.weight 1)) (IsPath w)
   led_fits (Some gateway) iface fits fits_iface = record {
     hop = (bounds.0, bounds.1, fits, tt);
     weight = (weight_least, weight_most, λ drops. absurd drops);
@@ -223,7 +224,7 @@ module _ (w : ℕ) (width : IsFamilyWidth w) (met : Met) (are : AreInRange met) 
   path_fits : (g : Option ℕ) → IfSome g (λ a. a < 2 ^ w) → IfOk (path_of met g) (IsPath w)
   path_fits g fits = by_discard met.discard
     where
-      led : IfOk (leading g met.iface (value_or 0 met.mtu) (value_or 1 met.weight)) (IsPath w)
+      led : IfOk (leading g met.iface (unwrap_or met.mtu 0) (unwrap_or met.weight 1)) (IsPath w)
       led = led_fits g met.iface fits are.0
 
       by_discard : (discard : Option Flag) → IfOk (path_by discard met g) (IsPath w)
@@ -309,17 +310,17 @@ flush_asks : (family : Option Flag) → IfOk (flush_of family) IsAsked
 flush_asks None = tt
 flush_asks (Some family) = family_asks (Some family) (Ok command.Flush) (Ok command.Flush) tt tt
 
-flow_fits : (flow : Option ℕ) → IfSome flow (λ n. n ≤ 4294967295) → value_or 0 flow < 2 ^ 32
+flow_fits : (flow : Option ℕ) → IfSome flow (λ n. n ≤ 4294967295) → unwrap_or flow 0 < 2 ^ 32
 flow_fits None fits = lit< tt
 flow_fits (Some n) fits = omega arith
 
 get_asks : (met : Met) → AreInRange met → IfOk (get_of met) IsAsked
 get_asks met are = choice (is_inet6 met.family) (address_asked 128 met) (address_asked 32 met) (asked_fits 128 (inr refl) met are) (asked_fits 32 (inl refl) met are)
   where
-    flow : value_or 0 met.flow < 2 ^ 32
+    flow : unwrap_or met.flow 0 < 2 ^ 32
     flow = flow_fits met.flow are.3
 
-    choice : (t : Bool) (a6 a : Result ℕ Reason) → IfOk a6 (λ a. a < 2 ^ 128) → IfOk a (λ a. a < 2 ^ 32) → IfOk (cond t (a6 >>= (λ a. Ok (Get6 a (value_or 0 met.flow)))) (a >>= (λ a. Ok (Get4 a (value_or 0 met.flow))))) IsAsked
+    choice : (t : Bool) (a6 a : Result ℕ Reason) → IfOk a6 (λ a. a < 2 ^ 128) → IfOk a (λ a. a < 2 ^ 32) → IfOk (cond t (a6 >>= (λ a. Ok (Get6 a (unwrap_or met.flow 0)))) (a >>= (λ a. Ok (Get4 a (unwrap_or met.flow 0))))) IsAsked
     choice true (Err reason) a fits6 fits = tt
     choice true (Ok b) a fits6 fits = (fits6, flow)
     choice false a6 (Err reason) fits6 fits = tt
@@ -333,6 +334,15 @@ tick_asks (Some word) = there (number_of word) (number_fits word)
     there None fits = tt
     there (Some ms) fits = fits
 
+profile_asks : (first : Option (List ℕ)) → IfOk (or_reason MissingWord first >>= profile_named) IsAsked
+profile_asks None = tt
+profile_asks (Some word) = there (bytes_eq word (codes "1")) (bytes_eq word (codes "2"))
+  where
+    there : (one two : Bool) → IfOk (cond one (Ok (Profile 1)) (cond two (Ok (Profile 2)) (Err BadNumber))) IsAsked
+    there true two = (omega arith, omega arith)
+    there false true = (omega arith, omega arith)
+    there false false = tt
+
 by_asks : (v : Verb) (met : Met) → AreInRange met → IfOk (asked_by v met) IsAsked
 by_asks verb.Add met are = family_asks met.family (add_of 32 met) (add_of 128 met) (add_fits 32 (inl refl) met are) (add_fits 128 (inr refl) met are)
 by_asks verb.Change met are = family_asks met.family (change_of 32 met) (change_of 128 met) (change_fits 32 (inl refl) met are) (change_fits 128 (inr refl) met are)
@@ -342,6 +352,7 @@ by_asks verb.Flush met are = flush_asks met.family
 by_asks verb.Tick met are = tick_asks met.first
 by_asks verb.Sync met are = tt
 by_asks verb.Algo met are = family_asks met.family (algo_of 32 met) (algo_of 128 met) (algo_fits 32 (inl refl) met are) (algo_fits 128 (inr refl) met are)
+by_asks verb.Profile met are = profile_asks met.first
 
 words_ask : (line : List ℕ) (words : List (List ℕ)) → IfOk (by_words line words) IsAsked
 words_ask line [] = tt
@@ -379,3 +390,12 @@ asked_at at text = choice (nat_lt lines_limit at) (nat_lt line_limit (length tex
     choice true long e r is = tt
     choice false true e r is = tt
     choice false false e r is = inside r (ltb-false lines_limit at e) is
+
+-- what is asked in time is what is asked
+pub timely_at : (at : ℕ) (begun : Bool) (r : Result Asked Reason) → IfOk r (IsAskedAt at) → IfOk (in_time begun r) (IsAskedAt at)
+timely_at at begun (Err reason) is = tt
+timely_at at begun (Ok asked) is = choice (is_profile asked && begun)
+  where
+    choice : (late : Bool) → IfOk (cond late (Err NotFirst) (Ok asked)) (IsAskedAt at)
+    choice true = tt
+    choice false = is

@@ -1,5 +1,6 @@
 -- The line that is spelled of what is asked asks for the same.
-use Rattle.std.proofs.Common.{◌≡◌, ◌∙◌, ℕ, ◌^◌, ◌<◌, ◌≤◌, true, false, nat_lt, List, [], ◌∷◌, Option, Some, None, IfSome, Ok, length, decimal, codes, inl, inr, refl, sym, ap, arith, append-nil}
+use Rattle.std.proofs.Common.{◌≡◌, ◌==◌, ◌∙◌, cond, ℕ, zero, suc, ◌^◌, ◌<◌, ◌≤◌, true, false, nat_lt, List, [], ◌∷◌, Option, Some, None, IfSome, Ok, length, decimal, codes, inl, inr, refl, sym, ap, arith, append-nil}
+use Rattle.std.specs.Prelude.{unwrap_or}
 use Rattle.std.specs.List.{list_all}
 use Rattle.std.specs.Str.{bytes_eq}
 use Rattle.std.proofs.lemmas.Bool.Decides.{nat_tests}
@@ -14,6 +15,7 @@ use Rattle.addr_text.proofs.NumberLemmas.{number_of-decimal}
 use Rattle.addr_text.proofs.PrefixTextLemmas.{reads_back_prefix}
 use Rattle.rib_store.specs.declared.command.Command.{Command}
 use Rattle.rib_store.specs.declared.command.Command.TheVariants as command
+use Rattle.rib_store.specs.Profile.{IsProfile}
 use Rattle.route_lang.specs.Text.{words_of}
 use Rattle.route_lang.specs.Reader.Verb.{verb_of, token_of}
 use Rattle.route_lang.specs.Reader.Walk.{Met, nothing_met, walk_from}
@@ -25,9 +27,9 @@ use Rattle.route_lang.specs.Spelling.{family_word, option_words, target_words, r
 use Rattle.route_lang.proofs.AddressWordLemmas.{address_is_bare, decimal_is_word, digits_no_dash, prefix_is_word}
 use Rattle.route_lang.proofs.WordsLemmas.{is_word, words_of-joined, taken-joined}
 use Rattle.route_lang.proofs.WalkLemmas.{bare_goes, flag_goes}
-use Rattle.route_lang.proofs.SpellingLemmas.{given, value_or-given, value_written, option_goes, option_is_words, met_of, TakesRoute, add_takes, change_takes, IsPath, WalksRoute, route_goes, target_is_words, address_back}
+use Rattle.route_lang.proofs.SpellingLemmas.{given, unwrap_or-given, value_written, option_goes, option_is_words, met_of, TakesRoute, add_takes, change_takes, IsPath, WalksRoute, route_goes, target_is_words, address_back}
 use Rattle.route_lang.specs.declared.asked.Asked.{Asked}
-use Rattle.route_lang.specs.declared.asked.Asked.TheVariants.{Nothing, Inet, Inet6, Both, Get4, Get6}
+use Rattle.route_lang.specs.declared.asked.Asked.TheVariants.{Nothing, Inet, Inet6, Both, Get4, Get6, Profile}
 use Rattle.route_lang.specs.declared.asked.Shared.TheVariants as shared
 use Rattle.route_lang.specs.declared.verb.Verb.{Verb}
 use Rattle.route_lang.specs.declared.verb.Verb.TheVariants as verb
@@ -211,13 +213,13 @@ get_asks : (a f : ℕ) → a < 2 ^ 32 → f < 2 ^ 32 → AsksFor verb.Get (codes
 get_asks a f fits small =
     let back = address_back 32 a (inl refl) fits in
     let walked = inet_goes verb.Get (address_text 32 a ∷ option_words (codes "flow") 0 f) refl ∙ get_goes 32 (Some flag.Inet) a f (inl refl) fits small in
-    record { are = get_is_words 32 a f (inl refl) fits small; comment = refl; route = refl; named = refl; walk = ap (λ met. met >>= asked_by verb.Get) walked ∙ rw (back, value_or-given 0 f) refl }
+    record { are = get_is_words 32 a f (inl refl) fits small; comment = refl; route = refl; named = refl; walk = ap (λ met. met >>= asked_by verb.Get) walked ∙ rw (back, unwrap_or-given 0 f) refl }
 
 get_asks6 : (a f : ℕ) → a < 2 ^ 128 → f < 2 ^ 32 → AsksFor verb.Get (codes "get") (family_word 128 ∷ address_text 128 a ∷ option_words (codes "flow") 0 f) (Get6 a f)
 get_asks6 a f fits small =
     let back = address_back 128 a (inr refl) fits in
     let walked = inet6_goes verb.Get (address_text 128 a ∷ option_words (codes "flow") 0 f) refl ∙ get_goes 128 (Some flag.Inet6) a f (inr refl) fits small in
-    record { are = get_is_words 128 a f (inr refl) fits small; comment = refl; route = refl; named = refl; walk = ap (λ met. met >>= asked_by verb.Get) walked ∙ rw (back, value_or-given 0 f) refl }
+    record { are = get_is_words 128 a f (inr refl) fits small; comment = refl; route = refl; named = refl; walk = ap (λ met. met >>= asked_by verb.Get) walked ∙ rw (back, unwrap_or-given 0 f) refl }
 
 -- ---- tick and algo
 
@@ -248,6 +250,16 @@ algo_asks6 (Fixed Range) own = record { are = refl; comment = refl; route = refl
 algo_asks6 (Fixed Radix) own = record { are = refl; comment = refl; route = refl; named = refl; walk = refl }
 algo_asks6 (Fixed Dxr) own = absurd (omega (arith, own))
 
+-- the word of a profile
+abbrev pub profile_word : ℕ → List ℕ
+profile_word n = cond (n == 2) (codes "2") (codes "1")
+
+profile_asks : (n : ℕ) → IsProfile n → AsksFor verb.Profile (codes "profile") (profile_word n ∷ []) (Profile n)
+profile_asks zero is = absurd (omega (arith, is.0))
+profile_asks (suc zero) is = record { are = refl; comment = refl; route = refl; named = refl; walk = refl }
+profile_asks (suc (suc zero)) is = record { are = refl; comment = refl; route = refl; named = refl; walk = refl }
+profile_asks (suc (suc (suc n))) is = absurd (omega (arith, is.1))
+
 -- ---- what is asked
 
 abbrev pub IsAsked : Asked → Type 0
@@ -258,6 +270,7 @@ IsAsked (Both (shared.Tick ms)) = ms < 2 ^ 32
 IsAsked (Both s) = Unit {0}
 IsAsked (Get4 a flow) = (a < 2 ^ 32) × (flow < 2 ^ 32)
 IsAsked (Get6 a flow) = (a < 2 ^ 128) × (flow < 2 ^ 32)
+IsAsked (Profile n) = IsProfile n
 
 -- the words that are spelled of what is asked
 abbrev pub asked_words : Asked → List (List ℕ)
@@ -267,6 +280,7 @@ asked_words (Inet6 c) = command_words c
 asked_words (Both s) = shared_words (shared_command s)
 asked_words (Get4 a flow) = get_words 32 a flow
 asked_words (Get6 a flow) = get_words 128 a flow
+asked_words (Profile n) = codes "profile" ∷ profile_word n ∷ []
 
 -- these are words, and ask for this on a line of any number
 abbrev pub Asks : List (List ℕ) → Asked → Type 0
@@ -297,3 +311,4 @@ asks_same (Both (shared.Tick ms)) is = asks_by verb.Tick (codes "tick") (decimal
 asks_same (Both shared.Sync) is = asks_by verb.Sync (codes "sync") [] (Both shared.Sync) (record { are = refl; comment = refl; route = refl; named = refl; walk = refl })
 asks_same (Get4 a f) is = asks_by verb.Get (codes "get") (family_word 32 ∷ address_text 32 a ∷ option_words (codes "flow") 0 f) (Get4 a f) (get_asks a f is.0 is.1)
 asks_same (Get6 a f) is = asks_by verb.Get (codes "get") (family_word 128 ∷ address_text 128 a ∷ option_words (codes "flow") 0 f) (Get6 a f) (get_asks6 a f is.0 is.1)
+asks_same (Profile n) is = asks_by verb.Profile (codes "profile") (profile_word n ∷ []) (Profile n) (profile_asks n is)

@@ -6,8 +6,9 @@ use Rattle.std.proofs.lemmas.List.{drop_more}
 use Rattle.std.proofs.Math.Seq.{get_or-append_seam}
 use Rattle.rib_store.specs.declared.command.Command.{Command}
 use Rattle.rib_store.specs.declared.command.Command.TheVariants as command
-use Rattle.route_lang.specs.Reader.Asked.{asked_of}
-use Rattle.route_lang.proofs.AskedLemmas.{IsAskedAt, asked_at}
+use Rattle.rib_store.specs.Profile.{IsProfile}
+use Rattle.route_lang.specs.Reader.Asked.{asked_of, in_time}
+use Rattle.route_lang.proofs.AskedLemmas.{IsAskedAt, asked_at, timely_at}
 use Rattle.route_lang.proofs.CommandLemmas.{IsCommand}
 use Rattle.rib_store.specs.Plan.{Planned}
 use Rattle.route_lang.specs.Reader.Lines.{shared_command, plans_behind, entries_of, with_front, then_lines, lines_from, no_plans}
@@ -15,7 +16,7 @@ use Rattle.route_lang.specs.Script.{Reading, is_quiet, command_line}
 use Rattle.route_lang.specs.Reader.Asked.{shared_request}
 use Rattle.route_lang.specs.Fits.{Positions, behind, positions_behind, Rises, HasAt, FitsLine, Fits, HasCommands, is_algo, IsScript}
 use Rattle.route_lang.specs.declared.asked.Asked.{Asked}
-use Rattle.route_lang.specs.declared.asked.Asked.TheVariants.{Nothing, Inet, Inet6, Both, Get4, Get6}
+use Rattle.route_lang.specs.declared.asked.Asked.TheVariants.{Nothing, Inet, Inet6, Both, Get4, Get6, Profile}
 use Rattle.route_lang.specs.declared.asked.Shared.{Shared}
 use Rattle.route_lang.specs.declared.asked.Shared.TheVariants as shared
 use Rattle.route_lang.specs.declared.line.Line.{Line}
@@ -72,26 +73,36 @@ then_rises below number false inet inet6 lines more rises = (more, rises)
 abbrev pub lengths : Plans → Positions
 lengths plans = record { inet = length plans.inet.commands; inet6 = length plans.inet6.commands }
 
+-- both plans are of one profile
+abbrev pub HaveOneProfile : Plans → Type 0
+HaveOneProfile plans = IsProfile plans.inet.profile × (plans.inet6.profile ≡ plans.inet.profile)
+
+-- both plans of a script are of its profile
+abbrev pub HasItsProfile : Reading → Type 0
+HasItsProfile script = IsProfile script.profile × (script.inet.profile ≡ script.profile) × (script.inet6.profile ≡ script.profile)
+
 -- what the lines from a number on give, behind these plans
 pub record Follows (at : ℕ) (plans : Plans) (script : Reading) : Type 0 where
   pub more : List (Command 32)
   pub more6 : List (Command 128)
   pub inet : script.inet.commands ≡ plans.inet.commands ++ more
   pub inet6 : script.inet6.commands ≡ plans.inet6.commands ++ more6
-  pub few : length script.lines ≤ lines_limit + 1 - at
+  pub few : HaveOneProfile plans → length script.lines + script.profile ≤ lines_limit + 1 - at + plans.inet.profile
   pub rises : (below : ℕ) → below < at → Rises below script.lines
   pub fits : Fits script.inet script.inet6 (lengths plans) script.lines
+  pub profile : HaveOneProfile plans → HasItsProfile script
 
 -- where no line is left
-pub none_follow : (at : ℕ) (plans : Plans) → Follows at plans (record { inet = plans.inet; inet6 = plans.inet6; lines = [] })
+pub none_follow : (at : ℕ) (plans : Plans) → Follows at plans (record { inet = plans.inet; inet6 = plans.inet6; lines = []; profile = plans.inet.profile })
 none_follow at plans = record {
   more = [];
   more6 = [];
   inet = sym (append-nil plans.inet.commands);
   inet6 = sym (append-nil plans.inet6.commands);
-  few = omega arith;
+  few = λ one. omega arith;
   rises = λ below h. tt;
   fits = (refl, refl);
+  profile = λ one. (one.0, refl, one.1);
 }
 
 -- the same of an answer that is a script
@@ -102,7 +113,7 @@ IfFollows at plans (Err fault) = Unit {0}
 -- a line before those that follow it
 pub behind_line : (at : ℕ) (plans : Plans) (asked : Asked) (more : Reading) → IsAskedAt at asked → Follows (at + 1) (plans_behind plans asked) more → Follows at plans (record more { lines = entries_of at plans asked ++ more.lines })
 behind_line at plans Nothing more is r =
-    record { more = r.more; more6 = r.more6; inet = r.inet; inet6 = r.inet6; few = omega (arith, r.few); rises = λ below h. r.rises below (omega arith); fits = r.fits }
+    record { more = r.more; more6 = r.more6; inet = r.inet; inet6 = r.inet6; few = λ one. omega (arith, r.few one, is.0); rises = λ below h. r.rises below (omega arith); fits = r.fits; profile = r.profile }
 behind_line at plans (Inet c) more is r =
     let longer : length (plans.inet.commands ++ c ∷ []) ≡ length plans.inet.commands + 1 = length-append plans.inet.commands (c ∷ []) in
     let later = rw longer at r.fits in
@@ -112,9 +123,10 @@ behind_line at plans (Inet c) more is r =
       more6 = r.more6;
       inet = r.inet ∙ append_assoc plans.inet.commands (c ∷ []) r.more;
       inet6 = r.inet6;
-      few = omega (arith, r.few);
+      few = λ one. omega (arith, r.few one, is.0);
       rises = λ below h. then_rises below at (is_quiet c) (Some (length plans.inet.commands)) None more.lines h (r.rises at (omega arith));
       fits = then_fits more.inet more.inet6 (lengths plans) at (is_quiet c) (Some (length plans.inet.commands)) None more.lines (line_fits more.inet more.inet6 (lengths plans) at (length plans.inet.commands) c is.1 refl found) later;
+      profile = r.profile;
     }
 behind_line at plans (Inet6 c) more is r =
     let longer : length (plans.inet6.commands ++ c ∷ []) ≡ length plans.inet6.commands + 1 = length-append plans.inet6.commands (c ∷ []) in
@@ -125,9 +137,10 @@ behind_line at plans (Inet6 c) more is r =
       more6 = c ∷ r.more6;
       inet = r.inet;
       inet6 = r.inet6 ∙ append_assoc plans.inet6.commands (c ∷ []) r.more6;
-      few = omega (arith, r.few);
+      few = λ one. omega (arith, r.few one, is.0);
       rises = λ below h. then_rises below at (is_quiet c) None (Some (length plans.inet6.commands)) more.lines h (r.rises at (omega arith));
       fits = then_fits more.inet more.inet6 (lengths plans) at (is_quiet c) None (Some (length plans.inet6.commands)) more.lines (line_fits6 more.inet more.inet6 (lengths plans) at (length plans.inet6.commands) c is.1 refl found) later;
+      profile = r.profile;
     }
 behind_line at plans (Both s) more is r =
     let c : Command 32 = shared_command s in
@@ -142,14 +155,18 @@ behind_line at plans (Both s) more is r =
       more6 = c6 ∷ r.more6;
       inet = r.inet ∙ append_assoc plans.inet.commands (c ∷ []) r.more;
       inet6 = r.inet6 ∙ append_assoc plans.inet6.commands (c6 ∷ []) r.more6;
-      few = omega (arith, r.few);
+      few = λ one. omega (arith, r.few one, is.0);
       rises = λ below h. then_rises below at (is_quiet c) (Some (length plans.inet.commands)) (Some (length plans.inet6.commands)) more.lines h (r.rises at (omega arith));
       fits = then_fits more.inet more.inet6 (lengths plans) at (is_quiet c) (Some (length plans.inet.commands)) (Some (length plans.inet6.commands)) more.lines (both_fit more.inet more.inet6 (lengths plans) at (length plans.inet.commands) (length plans.inet6.commands) s refl refl found found6) later;
+      profile = r.profile;
     }
 behind_line at plans (Get4 addr flow) more is r =
-    record { more = r.more; more6 = r.more6; inet = r.inet; inet6 = r.inet6; few = omega (arith, r.few); rises = λ below h. (h, r.rises at (omega arith)); fits = (refl, r.fits) }
+    record { more = r.more; more6 = r.more6; inet = r.inet; inet6 = r.inet6; few = λ one. omega (arith, r.few one, is.0); rises = λ below h. (h, r.rises at (omega arith)); fits = (refl, r.fits); profile = r.profile }
 behind_line at plans (Get6 addr flow) more is r =
-    record { more = r.more; more6 = r.more6; inet = r.inet; inet6 = r.inet6; few = omega (arith, r.few); rises = λ below h. (h, r.rises at (omega arith)); fits = (refl, r.fits) }
+    record { more = r.more; more6 = r.more6; inet = r.inet; inet6 = r.inet6; few = λ one. omega (arith, r.few one, is.0); rises = λ below h. (h, r.rises at (omega arith)); fits = (refl, r.fits); profile = r.profile }
+behind_line at plans (Profile n) more is r =
+    let one : HaveOneProfile (plans_behind plans (Profile n)) = (is.1, refl) in
+    record { more = r.more; more6 = r.more6; inet = r.inet; inet6 = r.inet6; few = λ before. omega (arith, r.few one, is.0, is.1.1, before.0.0); rises = λ below h. r.rises below (omega arith); fits = r.fits; profile = λ before. r.profile one }
 
 behind_answer : (at : ℕ) (plans : Plans) (asked : Result Asked Reason) (below : Plans → Result Reading LineFault) (script : Reading) → IfOk asked (IsAskedAt at) → ((behind : Plans) (more : Reading) → below behind ≡ Ok more → Follows (at + 1) behind more) → then_lines at plans asked below ≡ Ok script → Follows at plans script
 behind_answer at plans (Err reason) below script is later e = cc
@@ -163,23 +180,25 @@ pub lines_follow : (at : ℕ) (plans : Plans) (texts : List (List ℕ)) (script 
 lines_follow at plans [] script e = subst (λ (o : Result Reading LineFault). IfFollows at plans o) e (none_follow at plans)
 lines_follow at plans (text ∷ texts) script e =
     let later = λ (behind : Plans) (more : Reading) (f : lines_from (at + 1) behind texts ≡ Ok more). lines_follow (at + 1) behind texts more f in
-    behind_answer at plans (asked_of at text) (λ behind. lines_from (at + 1) behind texts) script (asked_at at text) later e
+    behind_answer at plans (in_time plans.begun (asked_of at text)) (λ behind. lines_from (at + 1) behind texts) script (timely_at at plans.begun (asked_of at text) (asked_at at text)) later e
 
 -- what follows nothing, from line 1 on
 pub follows_is_script : (script : Reading) → Follows 1 no_plans script → IsScript script
-follows_is_script script r = record { few = omega (arith, r.few); rises = r.rises 0 (omega arith); fits = r.fits }
+follows_is_script script r =
+    let one : HaveOneProfile no_plans = ((omega arith, omega arith), refl) in
+    let its = r.profile one in
+    record { few = omega (arith, r.few one, its.0.0); rises = r.rises 0 (omega arith); fits = r.fits; profile = its.0; inet = its.1; inet6 = its.2 }
 
 pub is_script : (texts : List (List ℕ)) (script : Reading) → lines_from 1 no_plans texts ≡ Ok script → IsScript script
 is_script texts script e = follows_is_script script (lines_follow 1 no_plans texts script e)
 
 -- the script that a reader has where no line is left
 pub read_is_script : (texts rest : List (List ℕ)) (number : ℕ) (plans : Plans) (front : List Line) (script : Reading) → with_front front (lines_from number plans rest) ≡ lines_from 1 no_plans texts → rest ≡ []
-    → script.inet ≡ plans.inet → script.inet6 ≡ plans.inet6 → script.lines ≡ front → IsScript script
-read_is_script texts rest number plans front script so_far ended inet inet6 lines =
-    let read : List Line → Result Reading LineFault = λ l. Ok (record { inet = plans.inet; inet6 = plans.inet6; lines = l }) in
+    → script ≡ record { inet = plans.inet; inet6 = plans.inet6; lines = front; profile = plans.inet.profile } → IsScript script
+read_is_script texts rest number plans front script so_far ended same =
+    let read : List Line → Result Reading LineFault = λ l. Ok (record { inet = plans.inet; inet6 = plans.inet6; lines = l; profile = plans.inet.profile }) in
     let whole : lines_from 1 no_plans texts ≡ read front = sym so_far ∙ ap (λ r. with_front front (lines_from number plans r)) ended ∙ ap read (append-nil front) in
-    let is = is_script texts (record { inet = plans.inet; inet6 = plans.inet6; lines = front }) whole in
-    record { few = rw lines is.few; rises = rw lines is.rises; fits = rw (inet, inet6, lines) is.fits }
+    subst IsScript (sym same) (is_script texts (record { inet = plans.inet; inet6 = plans.inet6; lines = front; profile = plans.inet.profile }) whole)
 
 -- ---- for a walk over the lines of a script
 

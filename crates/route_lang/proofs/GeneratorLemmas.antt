@@ -83,7 +83,7 @@ one_more_line count before plans more_plans front more_front x y asked left draw
     rw (joined, more, drawn, state, one) (line_joins (count - (before + 1)) (before + 1) plans front x)
 
 -- the lines so far, where none is left
-pub all_lines : (left at : ℕ) (plans : Plans) (front : List Line) (x : ℕ) (script : Reading) → left ≡ 0 → led_by front (generated_from left at plans x) ≡ script → record { inet = plans.inet; inet6 = plans.inet6; lines = front } ≡ script
+pub all_lines : (left at : ℕ) (plans : Plans) (front : List Line) (x : ℕ) (script : Reading) → left ≡ 0 → led_by front (generated_from left at plans x) ≡ script → record { inet = plans.inet; inet6 = plans.inet6; lines = front; profile = plans.inet.profile } ≡ script
 all_lines left at plans front x script none e =
-    let read : List Line → Reading = λ lines. record { inet = plans.inet; inet6 = plans.inet6; lines = lines } in
+    let read : List Line → Reading = λ lines. record { inet = plans.inet; inet6 = plans.inet6; lines = lines; profile = plans.inet.profile } in
     ap read (sym (append-nil front)) ∙ ap (λ n. led_by front (generated_from n at plans x)) (sym none) ∙ e

@@ -6,7 +6,8 @@ use Rattle.std.specs.Option.{option_or}
 use Rattle.std.proofs.lemmas.Bool.Decides.{nat_tests}
 use Rattle.std.proofs.lemmas.List.Elements.{filter_map-append}
 use Rattle.addr_text.specs.Number.{number_of}
-use Rattle.route_lang.specs.Grammar.{◌>>=◌, OptionRow, plain, valued, Numbers, Part, Bare, Given, Unknown, begins_with_dash, option_named, last_part, word_parts, given_parts, parts_of, bare_in, bare_words, telling, told, is_in, value_fault, part_fault, faults_behind, of_family, CommandRow, row, family_options, extent_options, path_options, added, changed, deleted, looked_up, flushed, ticked, module_set}
+use Rattle.rib_store.specs.declared.command.Command.TheVariants as command
+use Rattle.route_lang.specs.Grammar.{◌>>=◌, OptionRow, plain, valued, Numbers, Part, Bare, Given, Unknown, begins_with_dash, option_named, last_part, word_parts, given_parts, parts_of, bare_in, bare_words, telling, told, is_in, value_fault, part_fault, faults_behind, of_family, CommandRow, row, family_options, extent_options, path_options, routed, deleted, looked_up, flushed, ticked, profiled, module_set}
 use Rattle.route_lang.specs.Request.{OfBoth, Sync}
 use Rattle.route_lang.specs.Reader.Verb.{flag_of, own_flag, token_of, takes_value, least_value, greatest_value, within_range, value_of}
 use Rattle.route_lang.specs.Reader.Walk.{Met, nothing_met, is_given, set_flag, set_value, with_flag, with_parsed, with_value, without_value, put_bare, with_bare, at_end, along, walk_from}
@@ -34,14 +35,15 @@ option_row flag.Reject = plain (codes "-reject") (codes "discard")
 option_row flag.Flow = valued (codes "flow") 0 4294967295
 
 abbrev pub command_row : Verb → CommandRow
-command_row verb.Add = row (codes "add") 2 (family_options ++ (extent_options ++ path_options)) (λ parts. of_family parts (added 32 parts) (added 128 parts))
-command_row verb.Change = row (codes "change") 2 (family_options ++ (extent_options ++ path_options)) (λ parts. of_family parts (changed 32 parts) (changed 128 parts))
+command_row verb.Add = row (codes "add") 2 (family_options ++ (extent_options ++ path_options)) (λ parts. of_family parts (routed 32 command.Add parts) (routed 128 command.Add parts))
+command_row verb.Change = row (codes "change") 2 (family_options ++ (extent_options ++ path_options)) (λ parts. of_family parts (routed 32 command.Change parts) (routed 128 command.Change parts))
 command_row verb.Delete = row (codes "delete") 2 (family_options ++ extent_options) (λ parts. of_family parts (deleted 32 parts) (deleted 128 parts))
 command_row verb.Get = row (codes "get") 1 (family_options ++ valued (codes "flow") 0 4294967295 ∷ []) looked_up
 command_row verb.Flush = row (codes "flush") 0 family_options flushed
 command_row verb.Tick = row (codes "tick") 1 [] ticked
 command_row verb.Sync = row (codes "sync") 0 [] (λ parts. Ok (OfBoth Sync))
 command_row verb.Algo = row (codes "algo") 1 family_options (λ parts. of_family parts (module_set 32 parts) (module_set 128 parts))
+command_row verb.Profile = row (codes "profile") 1 [] profiled
 
 -- ---- words
 
@@ -180,6 +182,7 @@ dash_token verb.Tick word e = subst (with_dash verb.Tick word) (sym e) (none_nam
 dash_token verb.Sync word e = subst (with_dash verb.Sync word) (sym e) (none_named word e verb.Sync (flag_of word) (λ f. refl))
 dash_token verb.Algo word e = subst (with_dash verb.Algo word) (sym e) (algo_named word e
     (bytes_eq word (codes "-inet")) (bytes_eq word (codes "-inet6")) (bytes_eq word (codes "-net")) (bytes_eq word (codes "-host")) (bytes_eq word (codes "-if")) (bytes_eq word (codes "-mtu")) (bytes_eq word (codes "-weight")) (bytes_eq word (codes "-blackhole")) (bytes_eq word (codes "-reject")) (bytes_eq word (codes "flow")))
+dash_token verb.Profile word e = subst (with_dash verb.Profile word) (sym e) (none_named word e verb.Profile (flag_of word) (λ f. refl))
 
 bare_token : (v : Verb) (word : List ℕ) → begins_with_dash word ≡ false → TokenIs word (token_of v word) (option_named (command_row v).options word)
 bare_token v word e = by_verb_of v
@@ -224,6 +227,7 @@ bare_token v word e = by_verb_of v
     by_verb_of verb.Tick = subst (with_dash verb.Tick word) (sym e) (refl, e)
     by_verb_of verb.Sync = subst (with_dash verb.Sync word) (sym e) (refl, e)
     by_verb_of verb.Algo = subst (with_dash verb.Algo word) (sym e) (rw (inet, inet6) refl, e)
+    by_verb_of verb.Profile = subst (with_dash verb.Profile word) (sym e) (refl, e)
 
 token_is : (v : Verb) (word : List ℕ) → TokenIs word (token_of v word) (option_named (command_row v).options word)
 token_is v word = by_dash (begins_with_dash word) refl
@@ -658,6 +662,7 @@ module _ (met : Met) (earlier : List Part) (word : List ℕ) (h : Stands met ear
   bare_steps verb.Tick = by_met 1 (room_for_1 (bare_words earlier) refl)
   bare_steps verb.Sync = by_met 0 (no_room (bare_words earlier))
   bare_steps verb.Algo = by_met 1 (room_for_1 (bare_words earlier) refl)
+  bare_steps verb.Profile = by_met 1 (room_for_1 (bare_words earlier) refl)
 
 -- ---- the walk
 

@@ -1,5 +1,5 @@
 -- No spelled line is longer than a script's line may be.
-use Rattle.std.proofs.Common.{◌≡◌, ◌∙◌, ◌==◌, ℕ, ◌+◌, ◌*◌, ◌^◌, ◌<◌, ◌≤◌, Bool, true, false, cond, nat_lt, List, [], ◌∷◌, ◌++◌, Option, Some, None, length, take, drop, flat_map, codes, decimal, lit<, inl, inr, refl, sym, ap, subst, arith, length-append, append_assoc}
+use Rattle.std.proofs.Common.{◌≡◌, ◌∙◌, ◌==◌, ℕ, zero, suc, ◌+◌, ◌*◌, ◌^◌, ◌<◌, ◌≤◌, Bool, true, false, cond, nat_lt, List, [], ◌∷◌, ◌++◌, Option, Some, None, length, take, drop, flat_map, codes, decimal, lit<, inl, inr, refl, sym, ap, subst, arith, length-append, append_assoc}
 use Rattle.std.specs.Int.{w128, to_be_bytes}
 use Rattle.std.specs.Net.Addr.{segments_of}
 use Rattle.std.specs.Net.Text.{hex, groups_text, longest_zero_run, compressed_text, hex_groups_text, dotted_text}
@@ -19,7 +19,7 @@ use Rattle.route_lang.specs.Spelling.{option_words, setting_words, target_words,
 use Rattle.route_lang.proofs.SpellingLemmas.{AreSettings, IsPath}
 use Rattle.route_lang.proofs.CommandLemmas.{IsAsked, asked_words}
 use Rattle.route_lang.specs.declared.asked.Asked.{Asked}
-use Rattle.route_lang.specs.declared.asked.Asked.TheVariants.{Nothing, Inet, Inet6, Both, Get4, Get6}
+use Rattle.route_lang.specs.declared.asked.Asked.TheVariants.{Nothing, Inet, Inet6, Both, Get4, Get6, Profile}
 use Rattle.route_lang.specs.declared.asked.Shared.TheVariants as shared
 use Rattle.route_lang.specs.Limits.{line_limit}
 
@@ -170,3 +170,7 @@ asked_short (Both (shared.Tick ms)) is = omega (arith, word_length (decimal ms) 
 asked_short (Both shared.Sync) is = omega arith
 asked_short (Get4 a f) is = get_length 32 (codes "-inet") a f (omega arith) (inl refl) is.1
 asked_short (Get6 a f) is = get_length 128 (codes "-inet6") a f (omega arith) (inr refl) is.1
+asked_short (Profile zero) is = absurd (omega (arith, is.0))
+asked_short (Profile (suc zero)) is = omega arith
+asked_short (Profile (suc (suc zero))) is = omega arith
+asked_short (Profile (suc (suc (suc n)))) is = absurd (omega (arith, is.1))

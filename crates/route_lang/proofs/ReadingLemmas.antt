@@ -5,13 +5,13 @@ use Rattle.std.proofs.lemmas.Bool.Decides.{nat_tests}
 use Rattle.rib_store.specs.declared.command.Command.{Command}
 use Rattle.rib_store.specs.Plan.{Planned, plan_with}
 use Rattle.route_lang.specs.declared.asked.Asked.{Asked}
-use Rattle.route_lang.specs.declared.asked.Asked.TheVariants.{Nothing, Inet, Inet6, Both, Get4, Get6}
+use Rattle.route_lang.specs.declared.asked.Asked.TheVariants.{Nothing, Inet, Inet6, Both, Get4, Get6, Profile}
 use Rattle.route_lang.specs.declared.line.Line.{Line}
 use Rattle.route_lang.specs.declared.fault.LineFault.{LineFault}
 use Rattle.route_lang.specs.declared.fault.ScriptError.{ScriptError}
 use Rattle.route_lang.specs.declared.fault.ScriptError.TheVariants as script_error
 use Rattle.route_lang.specs.declared.script.Plans.{Plans}
-use Rattle.route_lang.specs.Reader.Asked.{asked_of}
+use Rattle.route_lang.specs.Reader.Asked.{asked_of, in_time}
 use Rattle.route_lang.specs.Limits.{input_limit}
 use Rattle.route_lang.specs.Reader.Lines.{plans_behind, entries_of, shared_command, with_front, lines_from, no_plans, script_read, TakesLine, RefusesLine, HasAtMost}
 use Rattle.route_lang.specs.Script.{Reading, GivesScript}
@@ -22,7 +22,7 @@ front_joined xs ys (Err fault) = refl
 front_joined xs ys (Ok below) = ap (λ lines. Ok (record below { lines = lines })) (append_assoc xs ys below.lines)
 
 -- a line that asks for something puts it behind the plans and the lines
-pub takes_line : (at : ℕ) (text : List ℕ) (plans : Plans) (front : List Line) (asked : Asked) → asked_of at text ≡ Ok asked → TakesLine at text plans front (plans_behind plans asked) (front ++ entries_of at plans asked)
+pub takes_line : (at : ℕ) (text : List ℕ) (plans : Plans) (front : List Line) (asked : Asked) → in_time plans.begun (asked_of at text) ≡ Ok asked → TakesLine at text plans front (plans_behind plans asked) (front ++ entries_of at plans asked)
 takes_line at text plans front asked e below =
     front_joined front (entries_of at plans asked) (lines_from (at + 1) (plans_behind plans asked) below)
     ∙ rw e refl
@@ -38,6 +38,7 @@ room_behind n plans (Inet6 c) some few = (omega (arith, few.0), one_more plans.i
 room_behind n plans (Both s) some few = (one_more plans.inet (shared_command s) n some few.0, one_more plans.inet6 (shared_command s) n some few.1)
 room_behind n plans (Get4 addr flow) some few = (omega (arith, few.0), omega (arith, few.1))
 room_behind n plans (Get6 addr flow) some few = (omega (arith, few.0), omega (arith, few.1))
+room_behind n plans (Profile number) some few = (omega (arith, few.0), omega (arith, few.1))
 
 -- the fault of a line behind these is that of the whole
 pub gives_fault : (bytes : List ℕ) (r : Result Reading ScriptError) (error : ScriptError) (number : ℕ) (plans : Plans) (front : List Line) (text : List ℕ) (rest below : List (List ℕ)) → IsErrAnd r (λ e. e ≡ error) → length bytes ≤ input_limit
@@ -56,8 +57,8 @@ gives_fault bytes (Err e) error number plans front text rest below is few next w
 
 -- where no line is left, what was read is the script
 pub gives_script : (bytes : List ℕ) (number : ℕ) (plans : Plans) (front : List Line) (rest : List (List ℕ)) (script : Reading) → length bytes ≤ input_limit → rest ≡ []
-    → with_front front (lines_from number plans rest) ≡ lines_from 1 no_plans (lines_of bytes) → script ≡ record { inet = plans.inet; inet6 = plans.inet6; lines = front } → script_read bytes ≡ Ok script
+    → with_front front (lines_from number plans rest) ≡ lines_from 1 no_plans (lines_of bytes) → script ≡ record { inet = plans.inet; inet6 = plans.inet6; lines = front; profile = plans.inet.profile } → script_read bytes ≡ Ok script
 gives_script bytes number plans front rest script few ended whole is =
     let inside : nat_lt input_limit (length bytes) ≡ false = grind (arith, nat_tests) in
-    let read : List Line → Result Reading LineFault = λ lines. Ok (record { inet = plans.inet; inet6 = plans.inet6; lines = lines }) in
+    let read : List Line → Result Reading LineFault = λ lines. Ok (record { inet = plans.inet; inet6 = plans.inet6; lines = lines; profile = plans.inet.profile }) in
     rw inside (sym whole ∙ ap (λ texts. with_front front (lines_from number plans texts)) ended ∙ ap read (append-nil front) ∙ ap Ok (sym is))

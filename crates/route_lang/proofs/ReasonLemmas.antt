@@ -1,7 +1,8 @@
 -- No line is refused as too large: that is said of the whole input alone.
-use Rattle.std.proofs.Common.{◌≡◌, ◌∙◌, ℕ, ◌+◌, ◌<◌, ◌≤◌, Bool, true, false, List, [], ◌∷◌, Option, Some, None, Result, Ok, Err, cond, length, nat_lt, ltb-true, ltb-false, refl, subst, arith}
+use Rattle.std.proofs.Common.{◌≡◌, ◌∙◌, ◌&&◌, ℕ, ◌+◌, ◌<◌, ◌≤◌, codes, bytes_eq, Bool, true, false, List, [], ◌∷◌, Option, Some, None, Result, Ok, Err, cond, length, nat_lt, ltb-true, ltb-false, refl, subst, arith}
 use Rattle.rib_store.specs.declared.command.Command.{Command}
 use Rattle.route_lang.specs.declared.asked.Asked.{Asked}
+use Rattle.route_lang.specs.declared.asked.Asked.TheVariants.{Profile}
 use Rattle.std.specs.Prelude.{IsErrOf}
 use Rattle.route_lang.specs.declared.fault.LineFault.{LineFault}
 use Rattle.route_lang.specs.declared.fault.ScriptError.{ScriptError}
@@ -21,7 +22,7 @@ use Rattle.route_lang.specs.Reader.Walk.{Met, with_flag, with_value, with_parsed
 use Rattle.route_lang.specs.Grammar.{◌>>=◌}
 use Rattle.addr_text.specs.PrefixText.{block_of}
 use Rattle.route_lang.specs.Reader.Verb.{token_of, bare_words}
-use Rattle.route_lang.specs.Reader.Asked.{destination_of, agreeing, agrees, gateway_of, address_asked, path_by, path_of, path_asked, add_of, change_of, delete_of, setting_asked, algo_of, tick_of, get_of, in_family, flush_of, asked_by, by_verb, by_command, by_words, asked_of}
+use Rattle.route_lang.specs.Reader.Asked.{destination_of, agreeing, agrees, gateway_of, address_asked, path_by, path_of, path_asked, add_of, change_of, delete_of, setting_asked, algo_of, tick_of, get_of, profile_named, profile_asked, in_family, flush_of, asked_by, by_verb, by_command, by_words, asked_of, is_profile, in_time}
 use Rattle.route_lang.specs.Grammar.{or_reason, gateway_by, leading, from_command}
 use Rattle.route_lang.specs.Reader.Lines.{then_lines, with_front, lines_from, no_plans, plans_behind, entries_of}
 use Rattle.route_lang.specs.Script.{Reading, GivesScript, input_too_large, script_of}
@@ -157,6 +158,11 @@ ticked met = bind (or_reason reason.MissingWord met.first) _ (given reason.Missi
 looked_up : (met : Met) → OfLine (get_of met)
 looked_up met = either _ _ _ (bind (address_asked 128 met) _ (address_read 128 met) (λ a. fine _)) (bind (address_asked 32 met) _ (address_read 32 met) (λ a. fine _))
 
+profiled : (met : Met) → OfLine (profile_asked met)
+profiled met =
+    bind (or_reason reason.MissingWord met.first) profile_named (given reason.MissingWord met.first tt)
+    (λ word. either (bytes_eq word (codes "1")) (Ok (Profile 1)) _ (fine (Profile 1)) (either (bytes_eq word (codes "2")) (Ok (Profile 2)) (Err reason.BadNumber) (fine (Profile 2)) (bad _ reason.BadNumber tt)))
+
 asked : (v : Verb) (met : Met) → OfLine (asked_by v met)
 asked verb.Add met = of_family met.family _ _ (added 32 met) (added 128 met)
 asked verb.Change met = of_family met.family _ _ (changed 32 met) (changed 128 met)
@@ -166,6 +172,7 @@ asked verb.Flush met = flushed met.family
 asked verb.Tick met = ticked met
 asked verb.Sync met = fine _
 asked verb.Algo met = of_family met.family _ _ (set 32 met) (set 128 met)
+asked verb.Profile met = profiled met
 
 -- ---- lines
 
@@ -186,6 +193,10 @@ line_asked at line =
     either (nat_lt lines_limit at) (Err reason.TooManyLines) _ (bad _ reason.TooManyLines tt)
     (either (nat_lt line_limit (length line)) (Err reason.LineTooLong) (by_words line (words_of line)) (bad _ reason.LineTooLong tt) (worded line (words_of line)))
 
+timely : (begun : Bool) (r : Result Asked Reason) → OfLine r → OfLine (in_time begun r)
+timely begun (Ok a) h = either (is_profile a && begun) (Err reason.NotFirst) (Ok a) (bad _ reason.NotFirst tt) (fine a)
+timely begun (Err why) h = h
+
 abbrev FaultOfLine : Result Reading LineFault → Type 0
 FaultOfLine (Ok reading) = Unit {0}
 FaultOfLine (Err fault) = IsOfLine fault.reason
@@ -202,7 +213,7 @@ line_first at plans (Ok a) below h b = behind_front (entries_of at plans a) (bel
 pub fault_of_line : (at : ℕ) (plans : Plans) (lines : List (List ℕ)) → FaultOfLine (lines_from at plans lines)
 fault_of_line at plans [] = tt
 fault_of_line at plans (text ∷ lines) =
-    line_first at plans (asked_of at text) (λ behind. lines_from (at + 1) behind lines) (line_asked at text) (λ behind. fault_of_line (at + 1) behind lines)
+    line_first at plans (in_time plans.begun (asked_of at text)) (λ behind. lines_from (at + 1) behind lines) (timely plans.begun (asked_of at text) (line_asked at text)) (λ behind. fault_of_line (at + 1) behind lines)
 
 -- bytes within the limit are refused for a reason of their line
 pub reason_of_line : (bytes : List ℕ) (fault : LineFault) → length bytes ≤ input_limit → script_of bytes ≡ Err fault → IsOfLine fault.reason

@@ -1,5 +1,6 @@
 -- What is asked for, spelled, asks for the same.
 use Rattle.std.proofs.Common.{◌≡◌, ◌∙◌, ◌==◌, ℕ, ◌^◌, ◌<◌, ◌≤◌, Bool, true, false, cond, le-leb, List, [], ◌∷◌, ◌++◌, Option, Some, None, Ok, decimal, codes, eqb-true, ne_eqb, inl, inr, refl, sym, ap, subst, arith, append-nil}
+use Rattle.std.specs.Prelude.{unwrap_or}
 use Rattle.std.specs.List.{list_all}
 use Rattle.std.proofs.lemmas.Bool.Decides.{nat_tests}
 use Rattle.std.proofs.lemmas.List.Folds.{list_all-append}
@@ -17,7 +18,6 @@ use Rattle.route_lang.specs.Reader.Verb.{token_of, bare_words, value_of, least_v
 use Rattle.route_lang.specs.Grammar.{begins_with_dash}
 use Rattle.route_lang.specs.Reader.Walk.{Met, is_given, set_value, with_flag, walk_from}
 use Rattle.route_lang.specs.Reader.Asked.{destination_of, path_asked}
-use Rattle.route_lang.specs.Grammar.{value_or}
 use Rattle.route_lang.specs.Spelling.{option_words, setting_words, target_words}
 use Rattle.route_lang.proofs.AddressWordLemmas.{address_is_bare, decimal_is_word, prefix_is_word}
 use Rattle.route_lang.proofs.WordsLemmas.{is_word}
@@ -34,10 +34,10 @@ use Rattle.route_lang.specs.declared.verb.Token.TheVariants.{Bare, Plain, Valued
 abbrev pub given : ℕ → ℕ → Option ℕ
 given absent n = cond (n == absent) None (Some n)
 
-pub value_or-given : (absent n : ℕ) → value_or absent (given absent n) ≡ n
-value_or-given absent n = cases (n == absent) refl
+pub unwrap_or-given : (absent n : ℕ) → unwrap_or (given absent n) absent ≡ n
+unwrap_or-given absent n = cases (n == absent) refl
   where
-    cases : (t : Bool) → (n == absent) ≡ t → value_or absent (cond t None (Some n)) ≡ n
+    cases : (t : Bool) → (n == absent) ≡ t → unwrap_or (cond t None (Some n)) absent ≡ n
     cases true e = sym (eqb-true n absent e)
     cases false e = refl
 
@@ -171,7 +171,7 @@ module _ (v : Verb) (takes : TakesRoute v) (w : ℕ) (width : IsFamilyWidth w) (
             ∙ settings_go v takes family (Some (prefix_text w b)) (Some word) p path.settings;
         same = refl;
         destination = rw back refl;
-        path = rw (gateway_back, value_or-given 0 iface, value_or-given 0 mtu, value_or-given 1 weight) refl;
+        path = rw (gateway_back, unwrap_or-given 0 iface, unwrap_or-given 0 mtu, unwrap_or-given 1 weight) refl;
       }
   route_goes kind.Direct gateway iface mtu weight path =
       let p : WeightedHop = record { nexthop = record { kind = kind.Direct; gateway = gateway; iface = iface; mtu = mtu }; weight = weight } in
@@ -181,7 +181,7 @@ module _ (v : Verb) (takes : TakesRoute v) (w : ℕ) (width : IsFamilyWidth w) (
         walked = prefix_goes (setting_words p) ∙ settings_go v takes family (Some (prefix_text w b)) None p path.settings;
         same = refl;
         destination = rw back refl;
-        path = rw (given_some iface path.hop.3.1, value_or-given 0 mtu, value_or-given 1 weight, path.hop.3.0) refl;
+        path = rw (given_some iface path.hop.3.1, unwrap_or-given 0 mtu, unwrap_or-given 1 weight, path.hop.3.0) refl;
       }
   route_goes kind.Blackhole gateway iface mtu weight path =
       dropped_goes flag.Blackhole (codes "-blackhole") (record { nexthop = record { kind = kind.Blackhole; gateway = gateway; iface = iface; mtu = mtu }; weight = weight }) takes.blackhole refl

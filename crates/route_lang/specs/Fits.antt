@@ -1,8 +1,10 @@
--- What every script keeps: its lines, in their order, ask for the commands of its plans, in theirs.
+-- What every script keeps: its lines, in their order, ask for the commands of its plans, in theirs, and both plans are of
+-- its profile.
 use Rattle.std.specs.Prelude.{◌≡◌, ℕ, ◌+◌, ◌<◌, ◌≤◌, Bool, true, false, not, List, [], ◌∷◌, length, slice_get, Option, Some, None, IfSome, MatchOption}
 use Rattle.rib_store.specs.declared.command.Command.{Command}
 use Rattle.rib_store.specs.declared.command.Command.TheVariants as command
 use Rattle.rib_store.specs.Plan.{Planned}
+use Rattle.rib_store.specs.Profile.{IsProfile}
 use Rattle.route_lang.specs.Request.{Shared, command_of}
 use Rattle.route_lang.specs.Script.{Reading, is_quiet}
 use Rattle.route_lang.specs.declared.line.Line.{Line}
@@ -92,3 +94,6 @@ pub record IsScript (script : Reading) : Type 0 where
   pub few : length script.lines ≤ lines_limit
   pub rises : Rises 0 script.lines
   pub fits : Fits script.inet script.inet6 no_commands script.lines
+  pub profile : IsProfile script.profile
+  pub inet : script.inet.profile ≡ script.profile
+  pub inet6 : script.inet6.profile ≡ script.profile

@@ -1,5 +1,5 @@
 -- The grammar of a line: options, commands, and what the words of a line ask for, or the first reason against them.
-use Rattle.std.specs.Prelude.{ℕ, ◌==◌, ◌||◌, ◌&&◌, not, nat_lt, nat_le, Bool, true, false, List, [], ◌∷◌, ◌++◌, length, Option, Some, None, is_some, option_map, option_and_then, Result, Ok, Err, slice_get, slice_index, bytes_eq, codes, if◌then◌else◌}
+use Rattle.std.specs.Prelude.{ℕ, ◌==◌, ◌||◌, ◌&&◌, not, nat_lt, nat_le, Bool, true, false, List, [], ◌∷◌, ◌++◌, length, Option, Some, None, is_some, option_map, option_and_then, unwrap_or, Result, Ok, Err, slice_get, slice_index, bytes_eq, codes, if◌then◌else◌}
 use Rattle.std.specs.List.{cons_option, filter_map, find, list_all, list_any}
 use Rattle.prefix_width.specs.Prefix.{Block}
 use Rattle.prefix_width.specs.Path.{WeightedHop}
@@ -14,13 +14,12 @@ use Rattle.addr_text.specs.PrefixText.{block_of, is_slash}
 use Rattle.rib_store.specs.declared.command.Command.{Command}
 use Rattle.rib_store.specs.declared.command.Command.TheVariants as command
 use Rattle.route_lang.specs.Limits.{lines_limit, line_limit}
-use Rattle.route_lang.specs.Request.{Request, OfInet, OfInet6, OfBoth, LookUp, LookUp6, Flush, Tick, Sync}
+use Rattle.route_lang.specs.Request.{Request, OfInet, OfInet6, OfBoth, LookUp, LookUp6, OfProfile, Flush, Tick, Sync}
 use Rattle.route_lang.specs.Text.{is_blank, words_of}
 use Rattle.route_lang.specs.declared.fault.Reason.{Reason}
 use Rattle.route_lang.specs.declared.fault.Reason.TheVariants.{TooManyLines, LineTooLong, BadByte, UnknownCommand, UnknownOption, Repeated, MissingWord, BadNumber, ExtraWord, BadAddress, BadLength, NoTarget, NoModule}
 
--- ---- reasons in turn
--- what comes next, unless there is a reason already
+-- ---- reasons in turn: what comes next, unless there is a reason already
 infixl 10 ◌>>=◌
 abbrev pub ◌>>=◌ : {A B : Type 0} → Result A Reason → (A → Result B Reason) → Result B Reason
 (Ok x) >>= f = f x
@@ -36,8 +35,7 @@ abbrev pub unless_faulty : {A E : Type 0} → Option E → Result A E → Result
 unless_faulty None made = made
 unless_faulty (Some fault) made = Err fault
 
--- ---- options
--- the least and the greatest of the numbers that an option takes
+-- ---- options: the least and the greatest of the numbers that one takes
 pub record Numbers : Type 0 where
   pub least : ℕ
   pub most : ℕ
@@ -66,8 +64,7 @@ path_options =
     valued (codes "-if") 1 65535 ∷ valued (codes "-mtu") 1 4294967295 ∷ valued (codes "-weight") 1 16777215
     ∷ plain (codes "-blackhole") (codes "discard") ∷ plain (codes "-reject") (codes "discard") ∷ []
 
--- ---- the words behind a command
--- a bare word, an option with the word behind it if it takes a value, or an option that the command hasn't
+-- ---- the words behind a command: a bare word, an option with the word behind it if it takes a value, or an option that the command hasn't
 pub data Part : Type 0 where
   Bare : (word : List ℕ) → Part
   Given : (option : OptionRow) (value : Option (List ℕ)) → Part
@@ -131,11 +128,6 @@ abbrev pub number_by : Option (OptionRow × Option (List ℕ)) → Option ℕ
 number_by None = None
 number_by (Some t) = option_and_then number_of t.1
 
--- a value, or what it is where it isn't given
-abbrev pub value_or : ℕ → Option ℕ → ℕ
-value_or absent None = absent
-value_or absent (Some n) = n
-
 -- ---- reasons against parts
 abbrev pub is_in : Numbers → Option ℕ → Bool
 is_in numbers None = false
@@ -157,8 +149,7 @@ abbrev pub faults_behind : ℕ → List Part → List Part → List Reason
 faults_behind most earlier [] = []
 faults_behind most earlier (part ∷ later) = cons_option (part_fault most earlier part) (faults_behind most (earlier ++ part ∷ []) later)
 
--- ---- destination and path
--- whether a destination is an address alone
+-- ---- destination and path: whether a destination is an address alone
 abbrev pub is_alone : List ℕ → Bool
 is_alone word = not (bytes_eq word (codes "default") || list_any is_slash word)
 
@@ -193,7 +184,7 @@ dropping k = record { nexthop = record { kind = k; gateway = 0; iface = 0; mtu =
 -- a path to a gateway or, without one, to the destination itself on an interface
 abbrev pub leading : Option ℕ → Option ℕ → ℕ → ℕ → Result WeightedHop Reason
 leading (Some gateway) iface mtu weight =
-    Ok (record { nexthop = record { kind = kind.Via; gateway = gateway; iface = value_or 0 iface; mtu = mtu }; weight = weight })
+    Ok (record { nexthop = record { kind = kind.Via; gateway = gateway; iface = unwrap_or iface 0; mtu = mtu }; weight = weight })
 leading None (Some iface) mtu weight =
     Ok (record { nexthop = record { kind = kind.Direct; gateway = 0; iface = iface; mtu = mtu }; weight = weight })
 leading None None mtu weight = Err NoTarget
@@ -203,7 +194,7 @@ abbrev pub path_by_told : Option (OptionRow × Option (List ℕ)) → Option ℕ
 path_by_told discard iface mtu weight gateway =
     if is_by (codes "-blackhole") discard then Ok (dropping kind.Blackhole)
     else if is_by (codes "-reject") discard then Ok (dropping kind.Reject)
-    else leading gateway iface (value_or 0 mtu) (value_or 1 weight)
+    else leading gateway iface (unwrap_or mtu 0) (unwrap_or weight 1)
 
 abbrev pub path_in : ℕ → List Part → Result WeightedHop Reason
 path_in w parts =
@@ -218,11 +209,9 @@ is_of_inet6 parts = is_by (codes "-inet6") (told (codes "family") parts)
 abbrev pub of_family : List Part → Result (Command 32) Reason → Result (Command 128) Reason → Result Request Reason
 of_family parts inet inet6 = if is_of_inet6 parts then inet6 >>= (λ c. Ok (OfInet6 c)) else inet >>= (λ c. Ok (OfInet c))
 
-abbrev pub added : (w : ℕ) → List Part → Result (Command w) Reason
-added w parts = destination_in w parts >>= (λ b. path_in w parts >>= (λ p. Ok (command.Add b p)))
-
-abbrev pub changed : (w : ℕ) → List Part → Result (Command w) Reason
-changed w parts = destination_in w parts >>= (λ b. path_in w parts >>= (λ p. Ok (command.Change b p)))
+-- what `add` and `change` make of a destination and a path
+abbrev pub routed : (w : ℕ) → (Block → WeightedHop → Command w) → List Part → Result (Command w) Reason
+routed w command parts = destination_in w parts >>= (λ b. path_in w parts >>= (λ p. Ok (command b p)))
 
 abbrev pub deleted : (w : ℕ) → List Part → Result (Command w) Reason
 deleted w parts = destination_in w parts >>= (λ b. gateway_in w parts >>= (λ g. Ok (command.Delete b g)))
@@ -247,8 +236,8 @@ address_in w parts = or_reason MissingWord (slice_get (bare_words parts) 0) >>= 
 
 abbrev pub looked_up : List Part → Result Request Reason
 looked_up parts =
-    if is_of_inet6 parts then address_in 128 parts >>= (λ a. Ok (LookUp6 a (value_or 0 (number_by (told (codes "flow") parts)))))
-    else address_in 32 parts >>= (λ a. Ok (LookUp a (value_or 0 (number_by (told (codes "flow") parts)))))
+    if is_of_inet6 parts then address_in 128 parts >>= (λ a. Ok (LookUp6 a (unwrap_or (number_by (told (codes "flow") parts)) 0)))
+    else address_in 32 parts >>= (λ a. Ok (LookUp a (unwrap_or (number_by (told (codes "flow") parts)) 0)))
 
 -- a flush without a family is of both
 abbrev pub flushed : List Part → Result Request Reason
@@ -256,6 +245,11 @@ flushed parts = if is_some (told (codes "family") parts) then of_family parts (O
 
 abbrev pub ticked : List Part → Result Request Reason
 ticked parts = or_reason MissingWord (slice_get (bare_words parts) 0) >>= (λ word. or_reason BadNumber (number_of word) >>= (λ ms. Ok (OfBoth (Tick ms))))
+
+abbrev pub profiled : List Part → Result Request Reason
+profiled parts =
+    or_reason MissingWord (slice_get (bare_words parts) 0)
+    >>= (λ word. if bytes_eq word (codes "1") then Ok (OfProfile 1) else if bytes_eq word (codes "2") then Ok (OfProfile 2) else Err BadNumber)
 
 -- a command: its word, how many bare words it has at most, its options, and what its parts ask for where none is faulty
 pub record CommandRow : Type 0 where
@@ -269,18 +263,18 @@ row word most options asks = record { word = word; most = most; options = option
 
 abbrev pub command_rows : List CommandRow
 command_rows =
-    row (codes "add") 2 (family_options ++ (extent_options ++ path_options)) (λ parts. of_family parts (added 32 parts) (added 128 parts))
-    ∷ row (codes "change") 2 (family_options ++ (extent_options ++ path_options)) (λ parts. of_family parts (changed 32 parts) (changed 128 parts))
+    row (codes "add") 2 (family_options ++ (extent_options ++ path_options)) (λ parts. of_family parts (routed 32 command.Add parts) (routed 128 command.Add parts))
+    ∷ row (codes "change") 2 (family_options ++ (extent_options ++ path_options)) (λ parts. of_family parts (routed 32 command.Change parts) (routed 128 command.Change parts))
     ∷ row (codes "delete") 2 (family_options ++ extent_options) (λ parts. of_family parts (deleted 32 parts) (deleted 128 parts))
     ∷ row (codes "get") 1 (family_options ++ valued (codes "flow") 0 4294967295 ∷ []) looked_up
     ∷ row (codes "flush") 0 family_options flushed
     ∷ row (codes "tick") 1 [] ticked
     ∷ row (codes "sync") 0 [] (λ parts. Ok (OfBoth Sync))
     ∷ row (codes "algo") 1 family_options (λ parts. of_family parts (module_set 32 parts) (module_set 128 parts))
+    ∷ row (codes "profile") 1 [] profiled
     ∷ []
 
--- ---- the line
--- a byte of a line that is no comment
+-- ---- the line: a byte of one that is no comment
 abbrev pub is_taken : ℕ → Bool
 is_taken byte = is_blank byte || (nat_le 33 byte && nat_le byte 126)
 

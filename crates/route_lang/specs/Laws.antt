@@ -1,5 +1,5 @@
 -- Laws of the script grammar, on lines with their numbers.
-use Rattle.std.specs.Prelude.{◌≡◌, ℕ, List, ◌∷◌, ◌++◌, None, Ok, Err}
+use Rattle.std.specs.Prelude.{◌≡◌, ◌⊎◌, ℕ, List, ◌∷◌, ◌++◌, None, Ok, Err, All}
 use Rattle.rib_store.specs.declared.command.Command.{Command}
 use Rattle.route_lang.specs.Grammar.{asked_for}
 use Rattle.route_lang.specs.Script.{Reading, script_from}
@@ -16,7 +16,7 @@ SkippedLineIsNone =
     (before after : List (ℕ × List ℕ)) (number : ℕ) (text : List ℕ) → asked_for number text ≡ Ok None
     → script_from (before ++ (number, text) ∷ after) ≡ script_from (before ++ after)
 
--- a script begins with that of its first lines
+-- a script begins with that of its first lines, and has its profile unless each of them is blank or a comment
 pub record BeginsWith (first : List (ℕ × List ℕ)) (whole : Reading) : Type 0 where
   pub script : Reading
   pub read : script_from first ≡ Ok script
@@ -26,6 +26,7 @@ pub record BeginsWith (first : List (ℕ × List ℕ)) (whole : Reading) : Type 
   pub inet : whole.inet.commands ≡ script.inet.commands ++ more
   pub inet6 : whole.inet6.commands ≡ script.inet6.commands ++ more6
   pub lines : whole.lines ≡ script.lines ++ later
+  pub profile : All (λ here. asked_for here.0 here.1 ≡ Ok None) first ⊎ (whole.profile ≡ script.profile)
 
 -- a text and the same with more lines agree on the lines before
 abbrev pub LinesBeforeAgree : Type 0

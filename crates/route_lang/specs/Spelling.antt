@@ -12,6 +12,7 @@ use Rattle.addr_text.specs.Address.{address_text}
 use Rattle.addr_text.specs.PrefixText.{prefix_text}
 use Rattle.rib_store.specs.declared.command.Command.{Command}
 use Rattle.rib_store.specs.declared.command.Command.TheVariants as command
+use Rattle.rib_store.specs.Profile.{keeps}
 use Rattle.route_lang.specs.Script.{Reading, script_of}
 use Rattle.route_lang.specs.declared.line.Line.{Line}
 use Rattle.route_lang.specs.declared.line.Line.TheVariants.{Change, Quiet, Get4, Get6}
@@ -88,6 +89,10 @@ line_words script (Get6 number a flow at) = get_words 128 a flow
 
 -- ---- text
 
+-- the line of the profile, which is left out where it is 1
+abbrev pub profile_text : ℕ → List ℕ
+profile_text profile = if keeps profile then codes "profile 2" ++ 10 ∷ [] else []
+
 -- the words with a space before each
 abbrev pub spaced : List (List ℕ) → List ℕ
 spaced [] = []
@@ -107,9 +112,9 @@ abbrev pub spelled_at : Reading → Option Line → List ℕ
 spelled_at script None = []
 spelled_at script (Some line) = spelled_line script line
 
--- all lines in their order
+-- the profile and all lines in their order
 abbrev pub spelled : Reading → List ℕ
-spelled script = flat_map (spelled_line script) script.lines
+spelled script = profile_text script.profile ++ flat_map (spelled_line script) script.lines
 
 -- ---- the law of the spelled text
 
@@ -125,10 +130,10 @@ abbrev pub numbered_from : ℕ → List Line → List Line
 numbered_from n [] = []
 numbered_from n (line ∷ lines) = numbered n line ∷ numbered_from (n + 1) lines
 
--- the script with its lines numbered 1, 2, 3 and so on
+-- the script with its lines numbered in turn: from 1 on in profile 1, and from 2 on in profile 2, whose line comes first
 abbrev pub renumbered : Reading → Reading
-renumbered script = record script { lines = numbered_from 1 script.lines }
+renumbered script = record script { lines = numbered_from script.profile script.lines }
 
--- the spelled text of a script, where a script may be so long, reads as it with its lines numbered 1, 2, 3 and so on
+-- the spelled text of a script, where a script may be so long, reads as it with its lines numbered in turn
 abbrev pub ShownTextReadsBack : Type 0
 ShownTextReadsBack = (bytes : List ℕ) (script : Reading) → script_of bytes ≡ Ok script → length (spelled script) ≤ input_limit → script_of (spelled script) ≡ Ok (renumbered script)

@@ -1,11 +1,11 @@
 //! What the words of a line ask for.
-ghost use Rattle.std.specs.Prelude.{◌≡◌, ◌≤◌, IfSome, IfOk};
+ghost use Rattle.std.specs.Prelude.{◌≡◌, ◌≤◌, IfSome, IfOk, unwrap_or};
 ghost use Rattle.std.specs.List.{list_any};
 ghost use Rattle.addr_text.specs.Address.{IsFamilyWidth};
 ghost use Rattle.addr_text.specs.PrefixText.{is_slash};
 ghost use Rattle.rib_store.specs.Plan.{IsWrongModule};
-ghost use Rattle.route_lang.specs.Reader.Asked.{agrees, destination_of, gateway_of, address_asked, path_asked, add_of, change_of, delete_of, setting_asked, IsModuleOf, algo_of, tick_of, get_of, asked_by, HasOwnModule};
-ghost use Rattle.route_lang.specs.Grammar.{is_alone, leading, value_or, setting_of};
+ghost use Rattle.route_lang.specs.Reader.Asked.{agrees, destination_of, gateway_of, address_asked, path_asked, add_of, change_of, delete_of, setting_asked, IsModuleOf, algo_of, tick_of, get_of, profile_asked, asked_by, is_profile, IsOfForm};
+ghost use Rattle.route_lang.specs.Grammar.{is_alone, leading, setting_of};
 ghost use Rattle.route_lang.specs.Reader.Walk.{met_by, InRange};
 
 use crate::fault::Reason;
@@ -30,6 +30,17 @@ pub(crate) enum Asked {
     Get4 { addr: Addr<32>, flow: u32 },
     /// An IPv6 address to be looked up.
     Get6 { addr: Addr<128>, flow: u32 },
+    /// The profile of the script, 1 or 2.
+    Profile(u8),
+}
+
+impl Asked {
+    /// Whether this is the profile of the script.
+    pub(crate) fn is_profile(&self) -> bool
+        ensures { result ≡ is_profile self.now }
+    {
+        matches!(self, Asked::Profile(_))
+    }
 }
 
 /// A command that both families get.
@@ -44,7 +55,7 @@ pub(crate) enum Shared {
 pub(crate) fn asked_by(verb: Verb, walk: &Walk<'_>) -> Result<Asked, Reason>
     requires { InRange walk.now }
     ensures value { result ≡ asked_by verb (met_by walk.now) }
-    ensures module { IfOk result HasOwnModule }
+    ensures form { IfOk result IsOfForm }
 {
     let inet6 = walk.is_inet6();
     match verb {
@@ -62,7 +73,24 @@ pub(crate) fn asked_by(verb: Verb, walk: &Walk<'_>) -> Result<Asked, Reason>
         Verb::Flush => Ok(Asked::Inet(Command::Flush)),
         Verb::Tick => tick(walk),
         Verb::Sync => Ok(Asked::Both(Shared::Sync)),
+        Verb::Profile => profile(walk),
     }
+}
+
+fn profile(walk: &Walk<'_>) -> Result<Asked, Reason>
+    ensures value { result ≡ profile_asked (met_by walk.now) }
+    ensures form { IfOk result IsOfForm }
+{
+    let Some(word) = walk.first else {
+        return Err(Reason::MissingWord);
+    };
+    if word == b"1".as_slice() {
+        return Ok(Asked::Profile(1));
+    }
+    if word == b"2".as_slice() {
+        return Ok(Asked::Profile(2));
+    }
+    Err(Reason::BadNumber)
 }
 
 fn tick(walk: &Walk<'_>) -> Result<Asked, Reason>
@@ -228,7 +256,7 @@ fn lone<const W: u32>(nexthop: Nexthop<W>) -> Path<W>
 fn leading<const W: u32>(walk: &Walk<'_>, gateway: Option<Addr<W>>) -> Result<Path<W>, Reason>
     requires width { IsFamilyWidth W }
     requires range { InRange walk.now }
-    ensures { result ≡ leading gateway.entry walk.now.iface (value_or 0 walk.now.mtu) (value_or 1 walk.now.weight) }
+    ensures { result ≡ leading gateway.entry walk.now.iface (unwrap_or walk.now.mtu 0) (unwrap_or walk.now.weight 1) }
 {
     // at most 65,535, so nothing is lost
     let iface = walk.iface.unwrap_or(0) as u16;

@@ -37,6 +37,8 @@ pub enum Reason {
     NoTarget = 13,
     /// The word names no module, or one that is not for the family.
     NoModule = 14,
+    /// A profile is set behind a line that is neither blank nor a comment.
+    NotFirst = 16,
 }
 
 impl Reason {
@@ -59,6 +61,7 @@ impl Reason {
             Reason::BadLength => "bad length",
             Reason::NoTarget => "no target",
             Reason::NoModule => "no such module",
+            Reason::NotFirst => "profile not first",
         }
     }
 }

@@ -1,6 +1,6 @@
 //! Scripts that are drawn.
 ghost use Rattle.std.specs.Prelude.{◌≡◌, ◌≤◌, IfOk};
-ghost use Rattle.route_lang.specs.Reader.Asked.{HasOwnModule};
+ghost use Rattle.route_lang.specs.Reader.Asked.{IsOfForm};
 ghost use Rattle.route_lang.specs.Generator.{next_state, state_after, draw, drawn_prefix, drawn_path, generated};
 ghost use Rattle.route_lang.specs.Limits.{lines_limit};
 ghost use Rattle.route_lang.specs.Reader.Draws.{asked_line};
@@ -39,7 +39,7 @@ const FIRST_GATEWAY: u32 = 0xc000_0201;
 /// - 11 to 15: a `get`, by two numbers. The address is 10.0.0.0 plus the remainder of the first by
 ///   2^24, and the flow is the second.
 ///
-/// A `tick` is of both families, and every other line is of IPv4.
+/// A `tick` is of both families, and every other line is of IPv4. The profile is 1.
 pub fn generate(alloc: Global, seed: u32, count: u32) -> Result<Script, OutOfMemory>
     requires { (1 ≤ count) × (count ≤ lines_limit) }
     ensures { IfOk result (λ script. script ≡ generated seed count) }
@@ -57,7 +57,7 @@ pub fn generate(alloc: Global, seed: u32, count: u32) -> Result<Script, OutOfMem
 /// Draws what a line asks for.
 fn drawn_line(draws: &mut Draws) -> Asked
     ensures asked { result ≡ (asked_line draws.old.state).asked }
-    ensures module { HasOwnModule result }
+    ensures form { IsOfForm result }
     ensures state { draws.new.state ≡ state_after (asked_line draws.old.state).draws draws.old.state }
 {
     match draws.draw() % 16 {

@@ -1,7 +1,7 @@
 //! One line is read.
 ghost use Rattle.std.specs.Prelude.{◌≡◌, ◌∷◌, [], ◌≤◌, IfOk, OnOk, MatchOption};
 ghost use Rattle.std.specs.List.{list_all};
-ghost use Rattle.route_lang.specs.Reader.Asked.{asked_of, by_words, HasOwnModule};
+ghost use Rattle.route_lang.specs.Reader.Asked.{asked_of, by_words, in_time, IsOfForm};
 ghost use Rattle.route_lang.specs.Grammar.{from_command, behind_ignored, is_comment, is_ignored, is_taken};
 ghost use Rattle.route_lang.specs.Limits.{lines_limit};
 ghost use Rattle.route_lang.specs.Text.{words_of};
@@ -13,10 +13,11 @@ use crate::text::{is_blank, next_word};
 use crate::verb::Verb;
 use crate::walk::walk_over;
 
-/// What the line of a number asks for, or the first reason against it.
-pub(crate) fn read_line(number: u32, line: &[u8]) -> Result<Asked, Reason>
-    ensures value { result ≡ asked_of number line.now }
-    ensures module { IfOk result HasOwnModule }
+/// What the line of a number asks for, or the first reason against it. `begun` is whether an
+/// earlier line asked for something.
+pub(crate) fn read_line(number: u32, line: &[u8], begun: bool) -> Result<Asked, Reason>
+    ensures value { result ≡ in_time begun (asked_of number line.now) }
+    ensures form { IfOk result IsOfForm }
     ensures within { OnOk result (number ≤ lines_limit) }
 {
     if number > LINES_MAX {
@@ -25,13 +26,17 @@ pub(crate) fn read_line(number: u32, line: &[u8]) -> Result<Asked, Reason>
     if line.len() > LINE_MAX {
         return Err(Reason::LineTooLong);
     }
-    request_of(line)
+    let asked = request_of(line)?;
+    if asked.is_profile() && begun {
+        return Err(Reason::NotFirst);
+    }
+    Ok(asked)
 }
 
 /// What the words of a line ask for.
 fn request_of(line: &[u8]) -> Result<Asked, Reason>
     ensures value { result ≡ by_words line.now (words_of line.now) }
-    ensures module { IfOk result HasOwnModule }
+    ensures form { IfOk result IsOfForm }
 {
     let Some((first, words)) = next_word(line) else {
         return Ok(Asked::Nothing);

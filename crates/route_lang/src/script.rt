@@ -3,7 +3,8 @@ ghost use Rattle.std.specs.Prelude.{◌≡◌, ◌↔◌, ◌<◌, ◌≤◌, �
 ghost use Rattle.std.specs.Arc.{arc_value};
 ghost use Rattle.rib_store.specs.Limits.{plan_max};
 ghost use Rattle.rib_store.specs.Plan.{IsWrongModule, plan_with};
-ghost use Rattle.route_lang.specs.Reader.Asked.{HasOwnModule};
+ghost use Rattle.rib_store.specs.Profile.{IsProfile};
+ghost use Rattle.route_lang.specs.Reader.Asked.{IsOfForm};
 ghost use Rattle.route_lang.specs.Fits.{IsScript};
 ghost use Rattle.route_lang.specs.Limits.{input_limit, lines_limit};
 ghost use Rattle.route_lang.specs.Reader.Lines.{TakesLine, RefusesLine, HasAtMost, plans_behind, entries_of, shared_command, no_plans};
@@ -44,16 +45,16 @@ impl Model for Script {
 
     ghost Value = { Reading };
 
-    ghost view = { λ s. record { inet = arc_value s.inet; inet6 = arc_value s.inet6; lines = s.lines } };
+    ghost view = { λ s. record { inet = arc_value s.inet; inet6 = arc_value s.inet6; lines = s.lines; profile = (arc_value s.inet).profile } };
 
-    ghost invariant = { λ s. IsScript (record { inet = arc_value s.inet; inet6 = arc_value s.inet6; lines = s.lines }) };
+    ghost invariant = { λ s. IsScript (record { inet = arc_value s.inet; inet6 = arc_value s.inet6; lines = s.lines; profile = (arc_value s.inet).profile }) };
 }
 
 impl Script {
     /// The script of these plans and lines.
     pub(crate) fn of(alloc: Global, plans: Plans, lines: Vec<Line>) -> Result<Script, OutOfMemory>
-        requires { IsScript (record { inet = plans.inet; inet6 = plans.inet6; lines = lines.items }) }
-        ensures { IfOk result (λ script. script ≡ record { inet = plans.inet; inet6 = plans.inet6; lines = lines.items }) }
+        requires { IsScript (record { inet = plans.inet; inet6 = plans.inet6; lines = lines.items; profile = plans.inet.profile }) }
+        ensures { IfOk result (λ script. script ≡ record { inet = plans.inet; inet6 = plans.inet6; lines = lines.items; profile = plans.inet.profile }) }
     {
         let inet = Arc::new(alloc, plans.inet)?;
         let inet6 = Arc::new(alloc, plans.inet6)?;
@@ -78,7 +79,16 @@ impl Script {
         &self.inet6
     }
 
-    /// The lines that ask for something, at most [`LINES_MAX`]. Their numbers rise, and they ask
+    /// The profile, 1 or 2, which both plans have: what becomes of a group's layout when a path
+    /// leaves. A script that names none has profile 1.
+    pub fn profile(&self) -> u8
+        ensures value { result ≡ self.now.profile }
+        ensures range { IsProfile result }
+    {
+        self.inet.profile()
+    }
+
+    /// The lines that ask for something of the table, at most [`LINES_MAX`]. Their numbers rise, and they ask
     /// for the commands of the plans in turn.
     pub fn lines(&self) -> &Lines
         ensures value { result.now ≡ self.now.lines }
@@ -93,16 +103,19 @@ impl Script {
 pub(crate) struct Plans {
     inet: Plan<32>,
     inet6: Plan<128>,
+    /// Whether a line asked for something.
+    begun: bool,
 }
 
 impl Plans {
-    /// The empty plans.
+    /// The empty plans of profile 1.
     pub(crate) fn new(alloc: Global) -> Plans
         ensures { result ≡ no_plans }
     {
         Plans {
             inet: Plan::new(alloc),
             inet6: Plan::new(alloc),
+            begun: false,
         }
     }
 }
@@ -145,7 +158,7 @@ fn take_line(
     ensures within { OnOk result (number ≤ lines_limit) }
     ensures room { OnOk result (HasAtMost number plans.new) }
 {
-    match read_line(number, line) {
+    match read_line(number, line, plans.begun) {
         Ok(asked) => Ok(take_asked(plans, lines, number, asked)?),
         Err(reason) => Err(LineFault {
             line: number,
@@ -162,13 +175,17 @@ pub(crate) fn take_asked(
     number: u32,
     asked: Asked,
 ) -> Result<(), OutOfMemory>
-    requires module { HasOwnModule asked }
+    requires form { IsOfForm asked }
     requires room { (length plans.old.inet.commands < plan_max) × (length plans.old.inet6.commands < plan_max) }
     ensures plans { OnOk result (plans.new ≡ plans_behind plans.old asked) }
     ensures lines { OnOk result (lines.new.items ≡ lines.old.items ++ entries_of number plans.old asked) }
 {
     match asked {
-        Asked::Nothing => {}
+        Asked::Nothing => return Ok(()),
+        Asked::Profile(number) => {
+            plans.inet.set_profile(number);
+            plans.inet6.set_profile(number);
+        }
         Asked::Inet(command) => {
             let at = push(&mut plans.inet, command)?;
             let line = command_line(is_quiet(&command), number, Some(at), None);
@@ -205,6 +222,7 @@ pub(crate) fn take_asked(
             })?;
         }
     }
+    plans.begun = true;
     Ok(())
 }
 

@@ -3,7 +3,7 @@ ghost use Rattle.std.specs.Prelude.{◌≡◌, ◌∷◌, ◌++◌, [], ◌<◌,
 ghost use Rattle.std.specs.Arc.{arc_value};
 ghost use Rattle.addr_text.specs.Address.{IsFamilyWidth, address_text};
 ghost use Rattle.addr_text.specs.PrefixText.{prefix_text};
-ghost use Rattle.route_lang.specs.Spelling.{family_word, option_words, setting_words, target_words, route_words, gateway_words, module_word, command_words, shared_words, get_words, words_at, line_words, spaced, joined, spelled_line, spelled_at, ShownTextReadsBack};
+ghost use Rattle.route_lang.specs.Spelling.{family_word, option_words, setting_words, target_words, route_words, gateway_words, module_word, command_words, shared_words, get_words, words_at, line_words, profile_text, spaced, joined, spelled_line, spelled_at, ShownTextReadsBack};
 ghost use Rattle.route_lang.specs.Fits.{HasCommands};
 
 use crate::line::Line;
@@ -12,6 +12,19 @@ use addr_text::{OutOfMemory, write_addr, write_number, write_prefix};
 use prefix_width::{Addr, Kind, NhKind, Path, Prefix, Setting};
 use rib_store::Command;
 use std::alloc::Global;
+
+/// Appends the line that sets a profile, and a line feed; nothing for profile 1, which holds where
+/// no line sets one. Where memory is wanting, `out` is as before.
+pub fn write_profile(profile: u8, out: &mut Vec<u8>) -> Result<(), OutOfMemory>
+    ensures ok { OnOk result (out.new.items ≡ out.old.items ++ profile_text profile) }
+    ensures err { OnErr result (out.new.items ≡ out.old.items) }
+{
+    if profile == 2 {
+        out.extend_from_slice(b"profile 2\n")
+    } else {
+        Ok(())
+    }
+}
 
 /// Appends the canonical spelling of the line of a number, counted from 0, and a line feed. Where
 /// memory is wanting, `out` is as before. The number is below theirs.
@@ -274,7 +287,8 @@ fn module_word(setting: &Setting) -> &'static [u8]
 }
 
 /// Law: the spelled text of a script that bytes are, where it has at most [`INPUT_MAX`] bytes, is
-/// read as that script with its lines numbered 1, 2, 3 and so on.
+/// read as that script with its lines numbered in turn: from 1 on, or from 2 on in profile 2, whose
+/// line comes first.
 ///
 /// [`INPUT_MAX`]: crate::INPUT_MAX
 pub fn law_shown_text_reads_back()

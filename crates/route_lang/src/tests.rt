@@ -3,6 +3,7 @@ use crate::asked::{Asked, Shared};
 use crate::read_line::read_line;
 use crate::{
     Line, LineFault, OutOfMemory, Reason, Script, ScriptError, generate, read_script, write_line,
+    write_profile,
 };
 use prefix_width::{Addr, Kind, Nexthop, Path, Prefix, Setting};
 use rib_store::Command;
@@ -10,7 +11,7 @@ use std::alloc::Global;
 use std::test::Fail;
 
 // One line each, with the first reason against it.
-const FAULTS: [(&[u8], Reason); 84] = [
+const FAULTS: [(&[u8], Reason); 92] = [
     (b"\x01# comment", Reason::BadByte),
     (b"add default 192.0.2.1\x7f", Reason::BadByte),
     (b"del\xc3 10.0.0.1", Reason::BadByte),
@@ -98,10 +99,18 @@ const FAULTS: [(&[u8], Reason); 84] = [
     (b"algo fast", Reason::NoModule),
     (b"algo dxr -inet6", Reason::NoModule),
     (b"algo AUTO", Reason::NoModule),
+    (b"profile", Reason::MissingWord),
+    (b"profile 0", Reason::BadNumber),
+    (b"profile 3", Reason::BadNumber),
+    (b"profile 02", Reason::BadNumber),
+    (b"profile 1 2", Reason::ExtraWord),
+    (b"profile -inet 2", Reason::UnknownOption),
+    (b"profile 2 -", Reason::UnknownOption),
+    (b"PROFILE 2", Reason::UnknownCommand),
 ];
 
 // Each reason with its number and its text.
-const REASONS: [(Reason, u8, &str); 14] = [
+const REASONS: [(Reason, u8, &str); 15] = [
     (Reason::TooLarge, 1, "input too large"),
     (Reason::TooManyLines, 2, "too many lines"),
     (Reason::LineTooLong, 3, "line too long"),
@@ -116,12 +125,13 @@ const REASONS: [(Reason, u8, &str); 14] = [
     (Reason::BadLength, 12, "bad length"),
     (Reason::NoTarget, 13, "no target"),
     (Reason::NoModule, 14, "no such module"),
+    (Reason::NotFirst, 16, "profile not first"),
 ];
 
 #[test]
 fn each_reason_has_its_number_and_its_text(rt: HostRuntime) {
     for (reason, number, text) in REASONS {
-        assert_eq!(rt; reason as u8, number, "of {text}");
+        assert_eq!(rt; reason as u8, number);
         assert_eq!(rt; reason.text(), text);
     }
 }
@@ -129,7 +139,7 @@ fn each_reason_has_its_number_and_its_text(rt: HostRuntime) {
 #[test]
 fn the_first_reason_is_told(rt: HostRuntime) {
     for (text, reason) in FAULTS {
-        assert_eq!(rt; read_line(1, text), Err(reason), "of {text:?}");
+        assert_eq!(rt; read_line(1, text, false), Err(reason), "of {text:?}");
     }
 }
 
@@ -258,9 +268,45 @@ fn a_line_is_read_whole(rt: HostRuntime) {
                 setting: Setting::Auto,
             })),
         ),
+        (b"profile 1", Some(Asked::Profile(1))),
+        (b"route -n\tprofile 2\r", Some(Asked::Profile(2))),
     ] {
-        assert_eq!(rt; read_line(1, text).ok(), asked, "of {text:?}");
+        assert_eq!(rt; read_line(1, text, false).ok(), asked, "of {text:?}");
     }
+    assert_eq!(rt; read_line(2, b"profile 2", true), Err(Reason::NotFirst));
+    assert_eq!(rt; read_line(2, b"profile 3", true), Err(Reason::BadNumber));
+}
+
+// The profile, where a script has one, and the lines that are left.
+#[test]
+fn a_profile_comes_first(rt: HostRuntime) -> Result<(), Fail> {
+    for (text, profile, want) in [
+        (b"sync".as_slice(), 1, b"sync\n".as_slice()),
+        (b"", 1, b""),
+        (b"profile 1\nsync", 1, b"sync\n"),
+        (
+            b"\n# x\n profile 2\nsync\nflush",
+            2,
+            b"profile 2\nsync\nflush\n",
+        ),
+        (b"route profile 2", 2, b"profile 2\n"),
+    ] {
+        let script = match read_script(rt.alloc(), text) {
+            Ok(script) => script,
+            Err(error) => return Err(error.into()),
+        };
+        assert_eq!(rt; script.profile(), profile, "of {text:?}");
+        assert_eq!(rt;
+            (script.inet().profile(), script.inet6().profile()),
+            (profile, profile)
+        );
+        assert_eq!(rt;
+            spelled(rt.alloc(), &script)?.as_slice(),
+            want,
+            "of {text:?}"
+        );
+    }
+    Ok(())
 }
 
 #[test]
@@ -270,10 +316,16 @@ fn a_line_has_at_most_255_bytes(rt: HostRuntime) -> Result<(), Fail> {
     for _ in 1..255 {
         text.push(b' ')?;
     }
-    assert_eq!(rt; read_line(1_048_576, &text), Ok(Asked::Nothing));
+    assert_eq!(rt; read_line(1_048_576, &text, false), Ok(Asked::Nothing));
     text.push(b' ')?;
-    assert_eq!(rt; read_line(1_048_576, &text), Err(Reason::LineTooLong));
-    assert_eq!(rt; read_line(1_048_577, &text), Err(Reason::TooManyLines));
+    assert_eq!(rt;
+        read_line(1_048_576, &text, false),
+        Err(Reason::LineTooLong)
+    );
+    assert_eq!(rt;
+        read_line(1_048_577, &text, false),
+        Err(Reason::TooManyLines)
+    );
     Ok(())
 }
 
@@ -355,6 +407,10 @@ fn the_first_faulty_line_is_told(rt: HostRuntime) -> Result<(), Fail> {
         (b"flush\nadd\nx\n".as_slice(), 2, Reason::MissingWord),
         (b"\n\n# x\nx\nadd", 4, Reason::UnknownCommand),
         (b"sync\r\n\x01", 2, Reason::BadByte),
+        (b"sync\nprofile 2\nadd", 2, Reason::NotFirst),
+        (b"#\nprofile 2\n\nprofile 2", 4, Reason::NotFirst),
+        (b"add\nprofile 2", 1, Reason::MissingWord),
+        (b"sync\nprofile 9", 2, Reason::BadNumber),
     ] {
         match read_script(rt.alloc(), text) {
             Ok(_) => assert!(rt; false, "no fault"),
@@ -485,6 +541,7 @@ const GENERATED: [&[u8]; 48] = [
 // The canonical text of a script.
 fn spelled(alloc: Global, script: &Script) -> Result<Vec<u8>, OutOfMemory> {
     let mut out = Vec::new(alloc);
+    write_profile(script.profile(), &mut out)?;
     for i in 0..script.lines().len() {
         write_line(alloc, script, i, &mut out)?;
     }

@@ -3,7 +3,8 @@ ghost use Rattle.std.specs.Prelude.{◌≡◌};
 ghost use Rattle.route_lang.specs.Reader.Verb.{verb_of, flag_of, is_family, is_extent, is_flow, has_flag, takes_value, bare_words, is_option, flag_token, token_of, least_value, greatest_value};
 ghost use Rattle.route_lang.specs.Grammar.{begins_with_dash};
 
-/// The commands of a line, after route(8); `tick`, `sync` and `algo` are this project's own.
+/// The commands of a line, after route(8); `tick`, `sync`, `algo` and `profile` are
+/// this project's own.
 #[derive(Clone, Copy, Debug, PartialEq, Eq)]
 pub(crate) enum Verb {
     Add,
@@ -14,6 +15,7 @@ pub(crate) enum Verb {
     Tick,
     Sync,
     Algo,
+    Profile,
 }
 
 /// The options of a line.
@@ -71,6 +73,9 @@ impl Verb {
         if word == b"algo".as_slice() {
             return Some(Verb::Algo);
         }
+        if word == b"profile".as_slice() {
+            return Some(Verb::Profile);
+        }
         None
     }
 
@@ -80,7 +85,7 @@ impl Verb {
     {
         match self {
             Verb::Add | Verb::Change | Verb::Delete => 2,
-            Verb::Get | Verb::Tick | Verb::Algo => 1,
+            Verb::Get | Verb::Tick | Verb::Algo | Verb::Profile => 1,
             Verb::Flush | Verb::Sync => 0,
         }
     }
@@ -117,7 +122,7 @@ impl Verb {
             Verb::Delete => flag.is_family() || flag.is_extent(),
             Verb::Get => flag.is_family() || flag.is_flow(),
             Verb::Flush | Verb::Algo => flag.is_family(),
-            Verb::Tick | Verb::Sync => false,
+            Verb::Tick | Verb::Sync | Verb::Profile => false,
         }
     }
 }

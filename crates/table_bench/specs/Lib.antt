@@ -1,3 +1,4 @@
+pub mod Flows
 pub mod Live
 pub mod Phases
 pub mod Versions

@@ -25,7 +25,7 @@ link_on Far first number = Change (prefix_at number) (path_by (first + number + 
 -- the table after the command to so many routes, from a number on
 unfoldable pub linked : ℕ → Link → ℕ → ℕ → Table → ℕ → Table
 linked LIVE link first from rows zero = rows
-linked LIVE link first from rows (suc n) = (apply {w = 32} LIVE (linked LIVE link first from rows n) (link_on link first (from + n))).table
+linked LIVE link first from rows (suc n) = (apply {w = 32} 1 LIVE (linked LIVE link first from rows n) (link_on link first (from + n))).table
 
 -- a table with so many live targets: a quarter of them are groups
 abbrev pub live_table : ℕ → ℕ → ℕ → Table

@@ -38,15 +38,15 @@ is_done Changes Changed = true
 is_done Deletes Deleted = true
 is_done phase reply = false
 
--- the table after commands, with room for so many live targets
+-- the table after commands in profile 1, with room for so many live targets
 abbrev pub table_from : {w : _} → ℕ → Table → List (Command w) → Table
-table_from live rows commands = fold (λ rows command. (apply live rows command).table) rows commands
+table_from live rows commands = fold (λ rows command. (apply 1 live rows command).table) rows commands
 
 -- the replies to commands, in turn
 abbrev pub replies : {w : _} → ℕ → Table → List (Command w) → List Reply
 replies live rows [] = []
 replies live rows (command ∷ commands) =
-    (apply live rows command).reply ∷ replies live (apply live rows command).table commands
+    (apply 1 live rows command).reply ∷ replies live (apply 1 live rows command).table commands
 
 -- what a command does to a map from prefixes to paths
 abbrev pub put_or_drop : {w : _} → List (Block × WeightedHop) → Command w → List (Block × WeightedHop)

@@ -13,19 +13,25 @@ use rib_store::ROUTES_MAX;
 /// groups do not.
 const TARGETS_LEAST: u32 = 8;
 
+/// The greatest number of groups of each size.
+const GROUPS_MAX: u32 = 100_000;
+
 /// What a run does.
 #[derive(Clone, Copy)]
 pub(crate) enum Job {
-    /// Prints the counts at 1,000 routes and at 1,000 live targets.
+    /// Prints the counts at 1,000 routes, at 1,000 live targets and of 100 groups of each size.
     Counts,
     /// Measures the table at so many routes.
     Time(u32),
     /// Measures lists and versions at so many live targets.
     Indexes(u32),
+    /// Counts the flows that move in so many groups of each size.
+    Flows(u32),
 }
 
 /// The job of the words behind the program's name: none, `time` and a number of routes from 1 to
-/// [`ROUTES_MAX`], or `indexes` and a number of live targets from 8 to [`TARGETS_MAX`].
+/// [`ROUTES_MAX`], `indexes` and a number of live targets from 8 to [`TARGETS_MAX`], or `flows` and a
+/// number of groups from 1 to 100,000.
 pub(crate) fn job_of(words: &[String]) -> Option<Job>
     ensures words { Asks (map string_bytes words.now) result }
     ensures bounds { IfSome result IsJob }
@@ -45,6 +51,7 @@ fn times_of(word: &str, number: &str) -> Option<Job>
     match word {
         "time" => Some(Job::Time(count_of(number, 1, ROUTES_MAX)?)),
         "indexes" => Some(Job::Indexes(count_of(number, TARGETS_LEAST, TARGETS_MAX)?)),
+        "flows" => Some(Job::Flows(count_of(number, 1, GROUPS_MAX)?)),
         _ => None,
     }
 }

@@ -34,7 +34,7 @@ pub(crate) fn measure_list<R: CpuClock + AllocGlobal, const LIVE: u32>(
     table: &Rib<32, LIVE>,
     targets: &[Target<32>],
 ) -> Result<Rounds, Fault>
-    ensures { IfOk result (λ rounds. rounds.count ≡ elements listing table.now targets.now) }
+    ensures { IfOk result (λ rounds. rounds.count ≡ elements listing table.now.rows targets.now) }
 {
     let mut count = make(rt.alloc(), listing, table, targets)?;
     let mut least = Duration::MAX;
@@ -58,7 +58,7 @@ fn make_often<const LIVE: u32>(
     table: &Rib<32, LIVE>,
     targets: &[Target<32>],
 ) -> Result<usize, OutOfMemory>
-    ensures { IfOk result (λ count. count ≡ elements listing table.now targets.now) }
+    ensures { IfOk result (λ count. count ≡ elements listing table.now.rows targets.now) }
 {
     for i in 1..TIMES {
         let _ = i;
@@ -74,7 +74,7 @@ fn make<const LIVE: u32>(
     table: &Rib<32, LIVE>,
     targets: &[Target<32>],
 ) -> Result<usize, OutOfMemory>
-    ensures { IfOk result (λ count. count ≡ elements listing table.now targets.now) }
+    ensures { IfOk result (λ count. count ≡ elements listing table.now.rows targets.now) }
 {
     match listing {
         Listing::Targets => {

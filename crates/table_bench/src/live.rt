@@ -5,6 +5,7 @@ ghost use Rattle.table_bench.specs.Live.{link_on, linked, live_table, moved};
 
 use crate::OutOfMemory;
 use crate::routes::{address_of, path_by, prefix_of};
+use crate::table::apply;
 use rib_store::{Command, Rib};
 use std::alloc::Global;
 
@@ -32,7 +33,8 @@ pub(crate) fn table_of<const LIVE: u32>(
     requires targets { AreTargets LIVE }
     requires live { live ≤ 4095 }
     requires first { first ≤ 8192 }
-    ensures { IfOk result (λ table. table ≡ live_table LIVE live first) }
+    ensures profile { IfOk result (λ table. table.profile ≡ 1) }
+    ensures rows { IfOk result (λ table. table.rows ≡ live_table LIVE live first) }
 {
     let groups = live / 4;
     let mut table = Rib::new(alloc);
@@ -48,9 +50,11 @@ pub(crate) fn move_three<const LIVE: u32>(
     live: u32,
     first: u32,
 ) -> Result<(), OutOfMemory>
+    requires profile { table.old.profile ≡ 1 }
     requires live { (8 ≤ live) × (live ≤ 4095) }
     requires first { first ≤ 8192 }
-    ensures { OnOk result (table.new ≡ moved LIVE live first table.old) }
+    ensures profile { table.new.profile ≡ 1 }
+    ensures rows { OnOk result (table.new.rows ≡ moved LIVE live first table.old.rows) }
 {
     link_all(table, alloc, Link::Far, first, live - live / 4 - 3, 3)
 }
@@ -65,12 +69,14 @@ fn link_all<const LIVE: u32>(
     from: u32,
     count: u32,
 ) -> Result<(), OutOfMemory>
+    requires profile { table.old.profile ≡ 1 }
     requires first { first ≤ 8192 }
     requires few { from + count ≤ 4095 }
-    ensures { OnOk result (table.new ≡ linked LIVE link first from table.old count) }
+    ensures profile { table.new.profile ≡ 1 }
+    ensures rows { OnOk result (table.new.rows ≡ linked LIVE link first from table.old.rows count) }
 {
     for i in 0..count {
-        table.apply(alloc, &command_of(link, first, from + i))?;
+        apply(table, alloc, &command_of(link, first, from + i))?;
     }
     Ok(())
 }

@@ -1,14 +1,18 @@
 //! `table_bench`: what a command costs by the route table, beside the same on a bare ordered map,
 //! and what the live targets and their indexes cost at a new version.
 //!
-//! With no words it prints how many of 1,000 adds, changes and deletes do what they ask, and how
-//! many elements lists and versions of 1,000 live targets have. With `time N` it prints what each
-//! command takes at N routes, with `indexes N` what lists and versions take at N live targets.
+//! With no words it prints how many of 1,000 adds, changes and deletes do what they ask, how many
+//! elements lists and versions of 1,000 live targets have, and how many flows of 100 groups of each
+//! size move. With `time N` it prints what each command takes at N routes, with `indexes N` what
+//! lists and versions take at N live targets, with `flows N` how many flows of N groups move when a
+//! path leaves.
 #![tactic(auto)]
 
 ghost use Rattle.std.specs.Prelude.{IfOk};
 ghost use Rattle.table_bench.specs.Words.{IsJob};
 
+mod flow_report;
+mod flows;
 mod index_report;
 mod job;
 mod lists;
@@ -29,7 +33,12 @@ use std::rt::Env;
 use std::time::CpuClock;
 
 fn main(rt: HostRuntime) -> ExitCode {
-    end(&rt, "table_bench", "[time N | indexes N]", run(&rt))
+    end(
+        &rt,
+        "table_bench",
+        "[time N | indexes N | flows N]",
+        run(&rt),
+    )
 }
 
 /// Does the job of the words behind the program's name.

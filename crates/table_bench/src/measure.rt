@@ -34,7 +34,7 @@ pub(crate) struct Rounds {
     pub(crate) times: u32,
 }
 
-/// Does the commands of a phase on the table, and what they ask on the bare map.
+/// Does the commands of a phase on the table, which is of profile 1, and what they ask on the bare map.
 pub(crate) fn measure<R: CpuClock + AllocGlobal, const LIVE: u32>(
     rt: &R,
     table: &mut Rib<32, LIVE>,
@@ -42,8 +42,10 @@ pub(crate) fn measure<R: CpuClock + AllocGlobal, const LIVE: u32>(
     phase: Phase,
     commands: &[Command<32>],
 ) -> Result<Figures, Fault>
-    ensures done { IfOk result (λ figures. figures.done ≡ count_by (is_done phase) (replies LIVE table.old commands.now)) }
-    ensures table { OnOk result (table.new ≡ table_from LIVE table.old commands.now) }
+    requires { table.old.profile ≡ 1 }
+    ensures profile { table.new.profile ≡ 1 }
+    ensures done { IfOk result (λ figures. figures.done ≡ count_by (is_done phase) (replies LIVE table.old.rows commands.now)) }
+    ensures table { OnOk result (table.new.rows ≡ table_from LIVE table.old.rows commands.now) }
     ensures map { OnOk result (map.new.entries ≡ map_from map.old.entries commands.now) }
 {
     let start = cpu_time(rt)?;

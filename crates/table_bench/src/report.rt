@@ -1,18 +1,24 @@
 //! What is printed.
+ghost use Rattle.std.specs.Prelude.{◌≡◌};
 ghost use Rattle.table_bench.specs.Words.{IsJob};
 
+use crate::flow_report::report_flows;
 use crate::index_report::report_indexes;
 use crate::job::Job;
 use crate::live::TARGETS_MAX;
 use crate::measure::{Figures, measure};
 use crate::routes::{Phase, commands_of};
 use bench_kit::{Fault, printed, tenths};
+use prefix_width::{Path, Prefix};
 use rib_store::Rib;
 use std::collections::BTreeMap;
 use std::time::CpuClock;
 
 /// At how many routes, and at how many live targets, the counts are printed.
 const COUNTED: u32 = 1_000;
+
+/// Of how many groups of each size the counts are printed.
+const GROUPS: u32 = 100;
 
 /// Does a job.
 pub(crate) fn work<R: Print + AllocGlobal + CpuClock>(rt: &R, job: Job) -> Result<(), Fault>
@@ -21,10 +27,12 @@ pub(crate) fn work<R: Print + AllocGlobal + CpuClock>(rt: &R, job: Job) -> Resul
     match job {
         Job::Counts => {
             report_commands(rt, false, COUNTED)?;
-            report_indexes(rt, false, COUNTED)
+            report_indexes(rt, false, COUNTED)?;
+            report_flows(rt, GROUPS)
         }
         Job::Time(count) => report_commands(rt, true, count),
         Job::Indexes(count) => report_indexes(rt, true, count),
+        Job::Flows(groups) => report_flows(rt, groups),
     }
 }
 
@@ -36,20 +44,35 @@ fn report_commands<R: Print + AllocGlobal + CpuClock>(
 ) -> Result<(), Fault> {
     let mut table = Rib::<32, TARGETS_MAX>::new(rt.alloc());
     let mut map = BTreeMap::new(rt.alloc());
-    for (name, phase) in [
-        ("add", Phase::Adds),
-        ("change", Phase::Changes),
-        ("delete", Phase::Deletes),
-    ] {
-        let commands = commands_of(rt.alloc(), phase, count)?;
-        let figures = measure(rt, &mut table, &mut map, phase, commands.as_slice())?;
-        if timed {
-            print_times(rt, name, &figures, count)?;
-        } else {
-            print_counts(rt, name, &figures, table.len(), map.len())?;
-        }
+    report_phase(rt, timed, count, &mut table, &mut map, Phase::Adds)?;
+    report_phase(rt, timed, count, &mut table, &mut map, Phase::Changes)?;
+    report_phase(rt, timed, count, &mut table, &mut map, Phase::Deletes)
+}
+
+/// Does a phase, and prints what it comes to.
+fn report_phase<R: Print + AllocGlobal + CpuClock, const LIVE: u32>(
+    rt: &R,
+    timed: bool,
+    count: u32,
+    table: &mut Rib<32, LIVE>,
+    map: &mut BTreeMap<Prefix<32>, Path<32>>,
+    phase: Phase,
+) -> Result<(), Fault>
+    requires { table.old.profile ≡ 1 }
+    ensures { table.new.profile ≡ 1 }
+{
+    let name = match phase {
+        Phase::Adds => "add",
+        Phase::Changes => "change",
+        Phase::Deletes => "delete",
+    };
+    let commands = commands_of(rt.alloc(), phase, count)?;
+    let figures = measure(rt, table, map, phase, commands.as_slice())?;
+    if timed {
+        print_times(rt, name, &figures, count)
+    } else {
+        print_counts(rt, name, &figures, table.len(), map.len())
     }
-    Ok(())
 }
 
 /// Prints how many commands were answered as the phase asks, and what is there then.

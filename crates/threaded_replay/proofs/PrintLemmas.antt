@@ -37,9 +37,9 @@ reply_is most plan replies pos reply all within here =
 pub flushes : {w : ℕ} (most : ℕ) (plan : Planned w) (pos : ℕ) (reply : Reply) → Some reply ≡ reply_at most plan pos → FlushesAtMost routes_max reply
 flushes {w} most plan pos reply is = elim (slice_get_cases plan.commands pos).1 [
   | inl p ↦
-      (let made : Some reply ≡ Some (apply most (table_after most plan pos) p.0).reply = is ∙ ap (option_map (λ c. (apply most (table_after most plan pos) c).reply)) p.2 in
-      subst (λ r. FlushesAtMost routes_max r) (sym (same_Some _ _ made)) (flushes_few most (table_after most plan pos) p.0 (tables_are_within w most plan pos).room))
-  | inr p ↦ absurd (none-some reply (sym (is ∙ ap (option_map (λ c. (apply most (table_after most plan pos) c).reply)) p.1)))
+      (let made : Some reply ≡ Some (apply plan.profile most (table_after most plan pos) p.0).reply = is ∙ ap (option_map (λ c. (apply plan.profile most (table_after most plan pos) c).reply)) p.2 in
+      subst (λ r. FlushesAtMost routes_max r) (sym (same_Some _ _ made)) (flushes_few plan.profile most (table_after most plan pos) p.0 (tables_are_within w most plan pos).room))
+  | inr p ↦ absurd (none-some reply (sym (is ∙ ap (option_map (λ c. (apply plan.profile most (table_after most plan pos) c).reply)) p.1)))
 ]
 
 -- the commands of a line are the plans'

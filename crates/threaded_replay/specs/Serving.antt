@@ -13,7 +13,7 @@ use Rattle.threaded_replay.specs.Tally.{Tally}
 
 -- a script of these plans, of which nothing else is asked
 abbrev pub of_plans : Planned 32 → Planned 128 → Reading
-of_plans plan plan6 = record { inet = plan; inet6 = plan6; lines = [] }
+of_plans plan plan6 = record { inet = plan; inet6 = plan6; lines = []; profile = plan.profile }
 
 -- the answer of a get at a version
 abbrev pub got_at : ℕ → Reading → Get → ℕ → Got

@@ -30,10 +30,11 @@ pub(crate) trait Naming<const W: u32> {
 impl<const W: u32> Naming<W> for Brand {
     ghost use Rattle.std.specs.Prelude.{[]};
     ghost use Rattle.fib_pass.specs.Views.{no_table};
+    ghost use Rattle.rib_store.specs.Plan.{no_plan};
 
     ghost table = { no_table };
 
-    ghost plan = { record { commands = [] } };
+    ghost plan = { no_plan 1 };
 
     ghost readers = { 0 };
 }

@@ -1,6 +1,6 @@
 -- How the reader makes of what it has met what a line asks for. No public clause cites this; that it agrees with the grammar
 -- is proved.
-use Rattle.std.specs.Prelude.{◌≡◌, ℕ, ◌==◌, not, Bool, true, false, nat_lt, List, [], ◌∷◌, length, Option, Some, None, Result, Ok, Err, if◌then◌else◌}
+use Rattle.std.specs.Prelude.{◌≡◌, ℕ, ◌==◌, ◌&&◌, not, Bool, true, false, nat_lt, List, [], ◌∷◌, length, codes, bytes_eq, Option, Some, None, unwrap_or, Result, Ok, Err, if◌then◌else◌}
 use Rattle.std.specs.List.{list_all}
 use Rattle.prefix_width.specs.Prefix.{Block}
 use Rattle.prefix_width.specs.Path.{WeightedHop}
@@ -14,19 +14,20 @@ use Rattle.addr_text.specs.PrefixText.{block_of}
 use Rattle.rib_store.specs.declared.command.Command.{Command}
 use Rattle.rib_store.specs.declared.command.Command.TheVariants as command
 use Rattle.rib_store.specs.Plan.{IsWrongModule}
+use Rattle.rib_store.specs.Profile.{IsProfile}
 use Rattle.route_lang.specs.declared.fault.Reason.{Reason}
-use Rattle.route_lang.specs.declared.fault.Reason.TheVariants.{TooManyLines, LineTooLong, BadByte, UnknownCommand, MissingWord, BadNumber, BadAddress, BadLength, NoModule}
+use Rattle.route_lang.specs.declared.fault.Reason.TheVariants.{TooManyLines, LineTooLong, BadByte, UnknownCommand, MissingWord, BadNumber, BadAddress, BadLength, NoModule, NotFirst}
 use Rattle.route_lang.specs.declared.verb.Verb.{Verb}
 use Rattle.route_lang.specs.declared.verb.Verb.TheVariants as verb
 use Rattle.route_lang.specs.declared.verb.Flag.{Flag}
 use Rattle.route_lang.specs.declared.verb.Flag.TheVariants as flag
 use Rattle.route_lang.specs.declared.asked.Asked.{Asked}
-use Rattle.route_lang.specs.declared.asked.Asked.TheVariants.{Nothing, Inet, Inet6, Both, Get4, Get6}
+use Rattle.route_lang.specs.declared.asked.Asked.TheVariants.{Nothing, Inet, Inet6, Both, Get4, Get6, Profile}
 use Rattle.route_lang.specs.declared.asked.Shared.{Shared}
 use Rattle.route_lang.specs.declared.asked.Shared.TheVariants as shared
-use Rattle.route_lang.specs.Grammar.{or_reason, is_alone, gateway_by, value_or, dropping, leading, setting_of, is_taken, is_comment, from_command}
+use Rattle.route_lang.specs.Grammar.{or_reason, is_alone, gateway_by, dropping, leading, setting_of, is_taken, is_comment, from_command}
 use Rattle.route_lang.specs.Limits.{lines_limit, line_limit}
-use Rattle.route_lang.specs.Request.{Request, OfInet, OfInet6, OfBoth, LookUp, LookUp6}
+use Rattle.route_lang.specs.Request.{Request, OfInet, OfInet6, OfBoth, LookUp, LookUp6, OfProfile}
 use Rattle.route_lang.specs.Request as request
 use Rattle.route_lang.specs.Text.{words_of}
 use Rattle.route_lang.specs.Reader.Verb.{verb_of}
@@ -62,7 +63,7 @@ address_asked w met = or_reason MissingWord met.first >>= (λ word. or_reason Ba
 abbrev pub path_by : Option Flag → Met → Option ℕ → Result WeightedHop Reason
 path_by (Some flag.Blackhole) met gateway = Ok (dropping kind.Blackhole)
 path_by (Some flag.Reject) met gateway = Ok (dropping kind.Reject)
-path_by discard met gateway = leading gateway met.iface (value_or 0 met.mtu) (value_or 1 met.weight)
+path_by discard met gateway = leading gateway met.iface (unwrap_or met.mtu 0) (unwrap_or met.weight 1)
 
 -- the path that options and gateway give
 abbrev pub path_of : Met → Option ℕ → Result WeightedHop Reason
@@ -106,8 +107,18 @@ tick_of met = or_reason MissingWord met.first >>= (λ word. or_reason BadNumber 
 
 abbrev pub get_of : Met → Result Asked Reason
 get_of met =
-    if is_inet6 met.family then address_asked 128 met >>= (λ a. Ok (Get6 a (value_or 0 met.flow)))
-    else address_asked 32 met >>= (λ a. Ok (Get4 a (value_or 0 met.flow)))
+    if is_inet6 met.family then address_asked 128 met >>= (λ a. Ok (Get6 a (unwrap_or met.flow 0)))
+    else address_asked 32 met >>= (λ a. Ok (Get4 a (unwrap_or met.flow 0)))
+
+-- the profile that a word names
+abbrev pub profile_named : List ℕ → Result Asked Reason
+profile_named word =
+    if bytes_eq word (codes "1") then Ok (Profile 1)
+    else if bytes_eq word (codes "2") then Ok (Profile 2)
+    else Err BadNumber
+
+abbrev pub profile_asked : Met → Result Asked Reason
+profile_asked met = or_reason MissingWord met.first >>= profile_named
 
 -- the command of the family that an option gives
 abbrev pub in_family : Option Flag → Result (Command 32) Reason → Result (Command 128) Reason → Result Asked Reason
@@ -128,12 +139,14 @@ asked_by verb.Flush met = flush_of met.family
 asked_by verb.Tick met = tick_of met
 asked_by verb.Sync met = Ok (Both shared.Sync)
 asked_by verb.Algo met = in_family met.family (algo_of 32 met) (algo_of 128 met)
+asked_by verb.Profile met = profile_asked met
 
--- a command of one family sets no module that is not for it
-abbrev pub HasOwnModule : Asked → Type 0
-HasOwnModule (Inet c) = ¬ (IsWrongModule c)
-HasOwnModule (Inet6 c) = ¬ (IsWrongModule c)
-HasOwnModule asked = Unit {0}
+-- a command of one family sets no module that is not for it, and a profile is 1 or 2
+abbrev pub IsOfForm : Asked → Type 0
+IsOfForm (Inet c) = ¬ (IsWrongModule c)
+IsOfForm (Inet6 c) = ¬ (IsWrongModule c)
+IsOfForm (Profile n) = IsProfile n
+IsOfForm asked = Unit {0}
 
 -- ---- the line
 
@@ -159,6 +172,15 @@ asked_of at line =
     else if nat_lt line_limit (length line) then Err LineTooLong
     else by_words line (words_of line)
 
+abbrev pub is_profile : Asked → Bool
+is_profile (Profile n) = true
+is_profile asked = false
+
+-- behind a line that asked for something it is too late for a profile
+abbrev pub in_time : Bool → Result Asked Reason → Result Asked Reason
+in_time begun (Ok asked) = if is_profile asked && begun then Err NotFirst else Ok asked
+in_time begun (Err reason) = Err reason
+
 -- ---- as a request
 
 abbrev pub shared_request : Shared → request.Shared
@@ -173,6 +195,7 @@ request_by (Inet6 c) = Some (OfInet6 c)
 request_by (Both s) = Some (OfBoth (shared_request s))
 request_by (Get4 a flow) = Some (LookUp a flow)
 request_by (Get6 a flow) = Some (LookUp6 a flow)
+request_by (Profile n) = Some (OfProfile n)
 
 abbrev pub requested : Result Asked Reason → Result (Option Request) Reason
 requested (Ok asked) = Ok (request_by asked)

@@ -31,7 +31,7 @@ led_by front below = record below { lines = front ++ below.lines }
 
 -- so many lines from number `at` on, behind these plans and a state
 abbrev pub generated_from : ℕ → ℕ → Plans → ℕ → Reading
-generated_from zero at plans x = record { inet = plans.inet; inet6 = plans.inet6; lines = [] }
+generated_from zero at plans x = record { inet = plans.inet; inet6 = plans.inet6; lines = []; profile = plans.inet.profile }
 generated_from (suc n) at plans x =
     let line = asked_line x in
     led_by (entries_of at plans line.asked) (generated_from n (at + 1) (plans_behind plans line.asked) (state_after line.draws x))

@@ -20,6 +20,7 @@ verb_of word =
     else if bytes_eq word (codes "tick") then Some verb.Tick
     else if bytes_eq word (codes "sync") then Some verb.Sync
     else if bytes_eq word (codes "algo") then Some verb.Algo
+    else if bytes_eq word (codes "profile") then Some verb.Profile
     else None
 
 -- the option that a word names, whatever the command
@@ -63,6 +64,7 @@ has_flag verb.Flush flag = is_family flag
 has_flag verb.Tick flag = false
 has_flag verb.Sync flag = false
 has_flag verb.Algo flag = is_family flag
+has_flag verb.Profile flag = false
 
 -- whether an option takes the next word as its value
 abbrev pub takes_value : Flag → Bool
@@ -82,6 +84,7 @@ bare_words verb.Flush = 0
 bare_words verb.Tick = 1
 bare_words verb.Sync = 0
 bare_words verb.Algo = 1
+bare_words verb.Profile = 1
 
 -- a word that begins with `-` is an option, and so is `flow` in a get
 abbrev pub is_option : Verb → List ℕ → Bool

@@ -3,13 +3,14 @@ use Rattle.std.specs.Prelude.{slice_get}
 use Rattle.std.proofs.Math.Nat.{mod-eq_of_lt}
 use Rattle.std.proofs.lemmas.Bool.{cases_eq}
 use Rattle.std.proofs.lemmas.Option.{same_Some, slice_get-get_or}
+use Rattle.nhgrp_slots.specs.Spread.{Spread}
 use Rattle.nhgrp_slots.proofs.PathLemmas.{joins}
 use Rattle.engine_set.proofs.tests.slots.Goals as goal
 
 pub with-requires : goal.with-requires
 with-requires c =
-    let alone = ap length c.in_ok-one.ensures in
-    (lit< tt, (lit< tt, joins _ _ c.len-len.ensures.list (sym c.clashes.ensures ∙ c.if-clashes.false) (omega (arith, alone))))
+    let alone = ap (λ (s : Spread). length s.paths) c.in_ok-one.ensures in
+    (lit< tt, (lit< tt, joins _ _ c.len-len.ensures.spread.list (sym c.clashes.ensures ∙ c.if-clashes.false) (omega (arith, alone))))
 
 -- a slot holds one of the two indexes
 one_of_two : (slots : List ℕ) (k d i : ℕ) → k < length slots → i < 2 → slice_get (1 ∷ 2 ∷ []) i ≡ slice_get slots (k % length slots) → (1 ≤ get_or slots k d) × (get_or slots k d ≤ 2)

@@ -33,7 +33,7 @@ make_lawful-requires g c =
     let made = c.made-made.ensures in
     let planned = c.deref.ensures ∙ c.plan.ensures in
     let image = image_is g.row.K g.row.LIVE r c.commands.ensures.run v c.made-made.result.number c.made-made.result.count c.len-routes.result c.args.engine c.in_ok-entries.entries c.in_ok-fresh.fresh.items c.deref.result.now c.args.before.now.names c.args.indexes.now.names
-    two c.requires.number c.requires.count made.number made.count (c.len-routes.ensures.count ∙ ap (λ (t : Table). length t) c.rib.ensures) c.requires.kind c.requires.stands
+    two c.requires.number c.requires.count made.number made.count (c.len-routes.ensures.count ∙ ap (λ (t : Table). length t) c.rib.ensures.rows) c.requires.kind c.requires.stands
     planned c.requires.before c.requires.indexes c.in_ok-entries.ensures c.in_ok-fresh.ensures in
     let names = names_at g.row.K g.row.LIVE r.plan (v + 1) in
     let pictured : Picture g.row.W = record { version = c.made-made.result.number; count = c.made-made.result.count; routes = c.len-routes.result; engine = c.args.engine; entries = c.in_ok-entries.entries; fresh = c.in_ok-fresh.fresh.items } in
@@ -47,7 +47,7 @@ returns-clause-image g c =
     let made = c.made-made.ensures in
     let planned = c.deref.ensures ∙ c.plan.ensures in
     let image = image_is g.row.K g.row.LIVE r c.commands.ensures.run v c.made-made.result.number c.made-made.result.count c.len-routes.result c.args.engine c.in_ok-entries.entries c.in_ok-fresh.fresh.items c.deref.result.now c.args.before.now.names c.args.indexes.now.names
-    two c.requires.number c.requires.count made.number made.count (c.len-routes.ensures.count ∙ ap (λ (t : Table). length t) c.rib.ensures) c.requires.kind c.requires.stands
+    two c.requires.number c.requires.count made.number made.count (c.len-routes.ensures.count ∙ ap (λ (t : Table). length t) c.rib.ensures.rows) c.requires.kind c.requires.stands
     planned c.requires.before c.requires.indexes c.in_ok-entries.ensures c.in_ok-fresh.ensures in
     let pictured : Picture g.row.W = record { version = c.made-made.result.number; count = c.made-made.result.count; routes = c.len-routes.result; engine = c.args.engine; entries = c.in_ok-entries.entries; fresh = c.in_ok-fresh.fresh.items } in
     if_ok (λ (i : Picture g.row.W). i ≡ pictured) (IsImage g.row.K g.row.LIVE r.plan (v + 1)) c.make_lawful.result (λ i e. subst (IsImage g.row.K g.row.LIVE r.plan (v + 1)) (sym e) image) c.make_lawful.ensures

@@ -9,6 +9,6 @@ returns-in_err-add_command-clause-ahead g c = ahead_more g.row.LIVE c.args.given
 
 pub returns-clause-ahead : goal.returns-clause-ahead
 returns-clause-ahead g c =
-    let gains = subst (λ (rows : Table). Gains c.args.touched.now (touched_by rows c.command.result.now) c.add_command.new.self) c.rib.ensures c.in_ok-add_command.ensures.ok in
+    let gains = subst (λ (rows : Table). Gains c.args.touched.now (touched_by rows c.command.result.now) c.add_command.new.self) c.rib.ensures.rows c.in_ok-add_command.ensures.ok in
     ahead_ran c.run.result g.row.LIVE c.args.given c.command.result.now c.args.runner.now c.run.new.self c.args.touched.now c.add_command.new.self c.requires.ahead c.requires.calm c.command.ensures
     gains c.in_ok-add_command.ensures.kept c.run.ensures.run c.run.ensures.on c.run.ensures.err

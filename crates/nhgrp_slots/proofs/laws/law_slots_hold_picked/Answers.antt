@@ -1,4 +1,4 @@
-use Rattle.nhgrp_slots.proofs.SlotLemmas.{slots_hold_picked}
+use Rattle.nhgrp_slots.proofs.SpreadLemmas.{slots_hold_picked}
 use Rattle.nhgrp_slots.proofs.laws.law_slots_hold_picked.Goals as goal
 
 pub returns : goal.returns

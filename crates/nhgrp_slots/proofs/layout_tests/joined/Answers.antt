@@ -3,4 +3,4 @@ use Rattle.nhgrp_slots.proofs.PathLemmas.{joins}
 use Rattle.nhgrp_slots.proofs.layout_tests.joined.Goals as goal
 
 pub with-requires : goal.with-requires
-with-requires c = (lit< tt, (lit< tt, joins _ _ c.len.ensures.list (sym c.clashes.ensures ∙ c.if-clashes.false) (omega arith)))
+with-requires c = (lit< tt, (lit< tt, joins _ _ c.len.ensures.spread.list (sym c.clashes.ensures ∙ c.if-clashes.false) (omega arith)))

@@ -12,7 +12,7 @@ count_kept-requires g c = (lit< tt, (c.requires.layout, (c.requires.new.room, λ
 pub loop-position-init : goal.loop-position-init
 loop-position-init g c = (
   taken_of (kept c.args.old.now c.args.layout.now c.args.new.now),
-  ap (λ (xs : List ℕ). xs ++ filled c.args.new.now (taken_of (kept c.args.old.now c.args.layout.now c.args.new.now)) (kept c.args.old.now c.args.layout.now c.args.new.now)) c.new-slots.ensures.items,
+  ap (λ (xs : List ℕ). xs ++ filled c.args.new.now (taken_of (kept c.args.old.now c.args.layout.now c.args.new.now)) (kept c.args.old.now c.args.layout.now c.args.new.now)) c.in_ok-slots.ensures.items,
   c.count_kept.ensures.counts,
   (let most = length-kept_taken c.args.old.now c.args.layout.now c.args.new.now in let room = c.requires.layout.room in omega arith),
   c.count_kept.ensures.same,

@@ -11,7 +11,7 @@ use Rattle.route_lang.proofs.script.read_script.Goals as goal
 pub of-requires : goal.of-requires
 of-requires c =
     let ended : lines_of c.lines.rest.now ≡ [] = search rules in
-    read_is_script (lines_of c.args.bytes.now) (lines_of c.lines.rest.now) (c.lines.number + 1) c.lines.plans c.lines.lines.items _ c.lines.invariant.script ended refl refl refl
+    read_is_script (lines_of c.args.bytes.now) (lines_of c.lines.rest.now) (c.lines.number + 1) c.lines.plans c.lines.lines.items _ c.lines.invariant.script ended refl
 
 pub returns-in_err-take_line : goal.returns-in_err-take_line
 returns-in_err-take_line c =

@@ -4,4 +4,4 @@ use Rattle.table_bench.specs.Live.{elements}
 use Rattle.table_bench.proofs.lists.measure_list.Given as goal
 
 abbrev pub invariant-loop-round : goal.invariant-loop-round
-invariant-loop-round g l = l.count ≡ elements l.listing l.table l.targets
+invariant-loop-round g l = l.count ≡ elements l.listing l.table.rows l.targets

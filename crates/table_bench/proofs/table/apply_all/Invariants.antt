@@ -6,7 +6,8 @@ use Rattle.table_bench.proofs.table.apply_all.Given as goal
 
 abbrev pub invariant-loop-command : goal.invariant-loop-command
 invariant-loop-command g l = record {
-  table : table_from g.row.LIVE l.table (drop l.command-index l.commands) ≡ table_from g.row.LIVE l.fn.table l.fn.commands;
-  count : fold (λ a reply. a + cond (is_done l.phase reply) 1 0) l.count (replies g.row.LIVE l.table (drop l.command-index l.commands)) ≡ count_by (is_done l.fn.phase) (replies g.row.LIVE l.fn.table l.fn.commands);
+  profile : l.table.profile ≡ 1;
+  table : table_from g.row.LIVE l.table.rows (drop l.command-index l.commands) ≡ table_from g.row.LIVE l.fn.table.rows l.fn.commands;
+  count : fold (λ a reply. a + cond (is_done l.phase reply) 1 0) l.count (replies g.row.LIVE l.table.rows (drop l.command-index l.commands)) ≡ count_by (is_done l.fn.phase) (replies g.row.LIVE l.fn.table.rows l.fn.commands);
   bound : l.count ≤ l.command-index;
 }

@@ -10,5 +10,5 @@ pub loop-prefix-preserved : goal.loop-prefix-preserved
 loop-prefix-preserved g c =
     let none = subst (λ x. IsEdit x c.index_at-after.result → ⊥) c.get.ensures c.in_default.ensures in
     ap (λ es. c.loop-prefix.edits.items ++ es)
-    (sym (edits_none (number_in c.args.indexes.now.names) c.args.rib.now c.args.view.now c.loop-prefix.prefix-iterator c.next.new.self c.in-Some.prefix.now c.in-Some.ensures.steps c.requires.named c.requires.indexes (subst (λ y. IsEdit (row_at c.args.view.now c.in-Some.prefix.now) y → ⊥) c.index_at-after.ensures none)))
+    (sym (edits_none (number_in c.args.indexes.now.names) c.args.rib.now.rows c.args.view.now c.loop-prefix.prefix-iterator c.next.new.self c.in-Some.prefix.now c.in-Some.ensures.steps c.requires.named c.requires.indexes (subst (λ y. IsEdit (row_at c.args.view.now c.in-Some.prefix.now) y → ⊥) c.index_at-after.ensures none)))
     ∙ c.loop-prefix.invariant

@@ -21,8 +21,8 @@ pub takes-requires : goal.takes-requires
 takes-requires g c =
     let m = c.requires.moves in
     let new = number_in c.args.indexes.now.names in
-    let cut = cut_of m.0 new m.1 c.args.rib.now c.args.touched.now c.args.self.now m.2 c.requires.named c.len-2.ensures.ascending c.len.ensures.ascending c.len-3.ensures.ascending in
-    let step = moved m.0 new m.1 c.args.rib.now c.args.touched.now cut c.args.self.now.view c.follow.new.view c.deref-2.result.now m.2.works.view (c.deref-2.ensures.value ∙ c.in_ok-edits.ensures)
+    let cut = cut_of m.0 new m.1 c.args.rib.now.rows c.args.touched.now c.args.self.now m.2 c.requires.named c.len-2.ensures.ascending c.len.ensures.ascending c.len-3.ensures.ascending in
+    let step = moved m.0 new m.1 c.args.rib.now.rows c.args.touched.now cut c.args.self.now.view c.follow.new.view c.deref-2.result.now m.2.works.view (c.deref-2.ensures.value ∙ c.in_ok-edits.ensures)
     (c.in_ok-follow.ensures ∙ ap (λ e. done_all e c.args.self.now.view) (c.deref.ensures.value ∙ sym c.deref-2.ensures.value)) in
     (lit< tt, (lit< tt, (step.are.distinct, (step.are.after, (subst (Stands c.args.self.now.engine) (sym (step.back ∙ m.2.works.view)) m.2.works.engine, c.requires.updater)))))
 
@@ -30,8 +30,8 @@ pub build-requires : goal.build-requires
 build-requires g c =
     let m = c.requires.moves in
     let new = number_in c.args.indexes.now.names in
-    let cut = cut_of m.0 new m.1 c.args.rib.now c.args.touched.now c.args.self.now m.2 c.requires.named c.len-2.ensures.ascending c.len.ensures.ascending c.len-3.ensures.ascending in
-    let step = moved m.0 new m.1 c.args.rib.now c.args.touched.now cut c.args.self.now.view c.follow.new.view c.deref-2.result.now m.2.works.view (c.deref-2.ensures.value ∙ c.in_ok-edits.ensures)
+    let cut = cut_of m.0 new m.1 c.args.rib.now.rows c.args.touched.now c.args.self.now m.2 c.requires.named c.len-2.ensures.ascending c.len.ensures.ascending c.len-3.ensures.ascending in
+    let step = moved m.0 new m.1 c.args.rib.now.rows c.args.touched.now cut c.args.self.now.view c.follow.new.view c.deref-2.result.now m.2.works.view (c.deref-2.ensures.value ∙ c.in_ok-edits.ensures)
     (c.in_ok-follow.ensures ∙ ap (λ e. done_all e c.args.self.now.view) (c.deref.ensures.value ∙ sym c.deref-2.ensures.value)) in
     (lit< tt, (lit< tt, (c.requires.suits, subst AreRows (sym (c.deref-then-not-branch.ensures.value ∙ c.in_ok-rows.ensures.value ∙ c.takes.ensures.view)) step.rows)))
 
@@ -39,10 +39,10 @@ pub returns-clause-works : goal.returns-clause-works
 returns-clause-works g c =
     let m = c.requires.moves in
     let new = number_in c.args.indexes.now.names in
-    let cut = cut_of m.0 new m.1 c.args.rib.now c.args.touched.now c.args.self.now m.2 c.requires.named c.len-2.ensures.ascending c.len.ensures.ascending c.len-3.ensures.ascending in
-    let step = moved m.0 new m.1 c.args.rib.now c.args.touched.now cut c.args.self.now.view c.follow.new.view c.deref-2.result.now m.2.works.view (c.deref-2.ensures.value ∙ c.in_ok-edits.ensures)
+    let cut = cut_of m.0 new m.1 c.args.rib.now.rows c.args.touched.now c.args.self.now m.2 c.requires.named c.len-2.ensures.ascending c.len.ensures.ascending c.len-3.ensures.ascending in
+    let step = moved m.0 new m.1 c.args.rib.now.rows c.args.touched.now cut c.args.self.now.view c.follow.new.view c.deref-2.result.now m.2.works.view (c.deref-2.ensures.value ∙ c.in_ok-edits.ensures)
     (c.in_ok-follow.ensures ∙ ap (λ e. done_all e c.args.self.now.view) (c.deref.ensures.value ∙ sym c.deref-2.ensures.value)) in
-    let rows = indexed new c.args.rib.now in
+    let rows = indexed new c.args.rib.now.rows in
     elim c.if-not-branch.branch [
       | then-not-branch+in_ok-rows+in_ok-self w ↦
           subst (WorksAt c.args.kind rows) (sym w.self-is) (record {
@@ -63,10 +63,10 @@ pub returns-clause-came : goal.returns-clause-came
 returns-clause-came g c =
     let m = c.requires.moves in
     let new = number_in c.args.indexes.now.names in
-    let cut = cut_of m.0 new m.1 c.args.rib.now c.args.touched.now c.args.self.now m.2 c.requires.named c.len-2.ensures.ascending c.len.ensures.ascending c.len-3.ensures.ascending in
-    let step = moved m.0 new m.1 c.args.rib.now c.args.touched.now cut c.args.self.now.view c.follow.new.view c.deref-2.result.now m.2.works.view (c.deref-2.ensures.value ∙ c.in_ok-edits.ensures)
+    let cut = cut_of m.0 new m.1 c.args.rib.now.rows c.args.touched.now c.args.self.now m.2 c.requires.named c.len-2.ensures.ascending c.len.ensures.ascending c.len-3.ensures.ascending in
+    let step = moved m.0 new m.1 c.args.rib.now.rows c.args.touched.now cut c.args.self.now.view c.follow.new.view c.deref-2.result.now m.2.works.view (c.deref-2.ensures.value ∙ c.in_ok-edits.ensures)
     (c.in_ok-follow.ensures ∙ ap (λ e. done_all e c.args.self.now.view) (c.deref.ensures.value ∙ sym c.deref-2.ensures.value)) in
-    let rows = indexed new c.args.rib.now in
+    let rows = indexed new c.args.rib.now.rows in
     let old = c.args.self.now in
     let are : AreEdits old.view rows c.deref-2.result.now = subst (λ v. AreEdits old.view v c.deref-2.result.now) step.now step.are in
     elim c.if-not-branch.branch [

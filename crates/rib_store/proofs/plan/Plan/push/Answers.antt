@@ -1,4 +1,4 @@
-use Rattle.std.proofs.Common.{arith, ◌≡◌, ◌≤◌, length}
+use Rattle.std.proofs.Common.{arith, refl, ◌≡◌, ◌≤◌, length}
 use Rattle.rib_store.specs.Plan.{IsWrongModule, with_first, named_by}
 use Rattle.rib_store.proofs.PlanLemmas.{hops_within, IsPlan-with}
 use Rattle.rib_store.proofs.plan.Plan.push.Goals as goal
@@ -16,5 +16,5 @@ invariant_of-self-2 g c =
       | else-this-ne32-via-else-this-ne32 w ↦ λ wrong. wrong.1 w.if-this-ne32.false
     ] in
     let hops : c.give_number.new.nexthops.items ≡ with_first c.self.inside.nexthops.items (named_by c.args.command) = cc (c.in_ok-give_number.ensures.ok, c.nexthop.ensures.named) in
-    IsPlan-with _ _ _ _ _ _ c.args.command c.self.invariant (omega arith) right c.nexthop.ensures.weight
+    IsPlan-with _ _ _ _ _ _ c.args.command c.self.invariant (omega arith) right c.nexthop.ensures.weight refl
     (cc (c.in_ok-push.ensures.items, c.in_ok-reserve.ensures.items)) hops c.in_ok-give_number.ensures.numbering
